@@ -1,0 +1,99 @@
+-- Attach: its checks in their order, the record that it gives back, and every byte that it leaves.
+use mathlib.Core.Bool.{Bool, true, false, not, _&&_}
+use mathlib.Core.List.{List, [], _∷_}
+use Prim.Native.Nat.{ℕ, _+_}
+use lib.Dec.{leb, ltb, eqb}
+use lib.ListN.{length}
+use Rattle.words.specs.Bytes.{bytesAre}
+use Rattle.words.specs.Le.{leAt, putLe}
+use Rattle.types.specs.Pick.{pick}
+use Rattle.types.specs.Answers.{number, Check, check, firstOf}
+use Rattle.types.specs.declared.Side.{Side}
+use Rattle.types.specs.declared.Own.{Own}
+use Rattle.types.specs.declared.Party.{Party}
+use Rattle.types.specs.declared.Reply.{Reply}
+use Rattle.types.specs.declared.Step.the-variants.{Rest}
+use Rattle.types.specs.declared.Answer.{Answer}
+use Rattle.types.specs.declared.Answer.the-variants.{InvalidMagic, UnsupportedVersion, InvalidHeaderSize, InvalidLayout, InvalidCapacity, InvalidSlotSize, WouldBlock, AlreadyAttached}
+use Rattle.layout.specs.Limits.{headerBytes, slotOk, powerOk, ringBytes}
+use Rattle.layout.specs.Flags.{initialised, worth, notFullOn, reservedFrom, bitOn, setBit, attachMark}
+use Rattle.layout.specs.Header.{magic, majorAt, minorAt, headerSizeAt, totalSizeAt, ringOffsetAt, ringBytesAt, arenaOffsetAt, arenaBytesAt, powerAt, slotSizeAt, flagsAt, counterAt, reserved, allZero}
+
+unfoldable pub magicOk : List ℕ → Bool
+magicOk r = bytesAre r 0 magic
+
+unfoldable pub versionOk : List ℕ → Bool
+versionOk r = eqb (leAt 2 r majorAt) 0 && eqb (leAt 2 r minorAt) 1
+
+-- total size, ring offset, arena words, and the total against the ring's bytes, which cannot wrap here
+unfoldable pub sizesOk : List ℕ → Bool
+sizesOk r =
+    eqb (leAt 8 r totalSizeAt) (length r)
+    && (eqb (leAt 8 r ringOffsetAt) headerBytes
+    && (eqb (leAt 8 r arenaOffsetAt) 0
+    && (eqb (leAt 8 r arenaBytesAt) 0 && eqb (leAt 8 r totalSizeAt) (headerBytes + leAt 8 r ringBytesAt))))
+
+-- reserved flags, bit 0, the own attach bit
+unfoldable pub flagChecks : ℕ → Side → List Check
+flagChecks flags side =
+    check (ltb flags reservedFrom) InvalidLayout
+    ∷ check (bitOn initialised flags) WouldBlock
+    ∷ check (not (bitOn (worth (attachMark side)) flags)) AlreadyAttached
+    ∷ []
+
+-- slot size, power, ring bytes, reserved bytes, flags
+unfoldable pub ringChecks : List ℕ → Side → List Check
+ringChecks r side =
+    check (slotOk (leAt 4 r slotSizeAt)) InvalidSlotSize
+    ∷ check (powerOk (leAt 1 r powerAt)) InvalidCapacity
+    ∷ check (eqb (leAt 8 r ringBytesAt) (ringBytes (leAt 1 r powerAt) (leAt 4 r slotSizeAt))) InvalidLayout
+    ∷ check (allZero r reserved) InvalidLayout
+    ∷ flagChecks (leAt 4 r flagsAt) side
+
+unfoldable pub attachChecks : List ℕ → Side → List Check
+attachChecks r side =
+    check (leb headerBytes (length r)) InvalidLayout
+    ∷ check (magicOk r) InvalidMagic
+    ∷ check (versionOk r) UnsupportedVersion
+    ∷ check (eqb (leAt 4 r headerSizeAt) headerBytes) InvalidHeaderSize
+    ∷ check (sizesOk r) InvalidLayout
+    ∷ ringChecks r side
+
+unfoldable pub attachAnswer : List ℕ → Side → Answer
+attachAnswer r side = firstOf (attachChecks r side)
+
+-- a party at rest that has named nothing yet
+abbrev pub fresh : Own → (counter : ℕ) → Party
+fresh own counter = record { own = own; closed = false; counter = counter; blocking = false; tag = 0; length = 0; step = Rest }
+
+-- the record of a party not attached
+abbrev pub unattached : Side → Party
+unattached side = fresh (record { side = side; attached = false; power = 0; slot = 0; notfull = false }) 0
+
+-- its own copy of the counter, the sizes and the option; its own close starts false
+abbrev pub attached : List ℕ → Side → Party
+attached r side =
+    fresh
+    (record {
+      side = side;
+      attached = true;
+      power = leAt 1 r powerAt;
+      slot = leAt 4 r slotSizeAt;
+      notfull = bitOn notFullOn (leAt 4 r flagsAt);
+    })
+    (leAt 8 r (counterAt side))
+
+-- a refusal gives back the record of a party not attached
+unfoldable pub attachReply : List ℕ → Side → Reply
+attachReply r side =
+    record {
+      party = pick (eqb (number (attachAnswer r side)) 0) (attached r side) (unattached side);
+      answer = attachAnswer r side;
+    }
+
+-- and changes no byte; success sets the one bit
+unfoldable pub attachLeaves : List ℕ → Side → List ℕ
+attachLeaves r side =
+    pick (eqb (number (attachAnswer r side)) 0)
+    (putLe 4 r flagsAt (setBit (worth (attachMark side)) (leAt 4 r flagsAt)))
+    r

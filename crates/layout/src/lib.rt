@@ -1,0 +1,1 @@
+// The rules of the region. No code: the definitions stand in specs/, their laws in proofs/.
