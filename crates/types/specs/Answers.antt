@@ -1,8 +1,7 @@
 -- Document 01's table of answers: the number of each, and the values that it carries.
-use mathlib.Core.Bool.{Bool, true, false}
+use mathlib.Core.Bool.{Bool}
 use mathlib.Core.List.{List, [], _∷_}
 use Prim.Native.Nat.{ℕ}
-use lib.Dec.{eqb}
 use Rattle.types.specs.Pick.{pick}
 use Rattle.types.specs.declared.Told.{Told}
 use Rattle.types.specs.declared.Answer.{Answer}

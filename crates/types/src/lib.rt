@@ -106,10 +106,115 @@ pub enum Answer {
     GoesOn,
 }
 
+// The one shared access of a turn, with its word and its value. A slot is named by the counter that it belongs to, a wake
+// by its bell and how many it wakes.
+pub enum Access {
+    None,
+    LoadCounter(Side),
+    LoadFlags,
+    LoadBell(Bell),
+    WriteSlot(u64),
+    ReadSlot(u64),
+    StoreCounter(Side, u64),
+    RaiseBell(Bell),
+    SetFlag(Mark),
+    WaitBell(Bell, u32),
+    WakeBell(Bell, u32),
+}
+
+// What the counters say to a side: used above the capacity; nothing to do for it (full, or empty); something.
+pub enum Room {
+    Corrupt,
+    Stuck,
+    Free,
+}
+
+// What the flags say to a side: shut down; the other closed; neither.
+pub enum Door {
+    Shut,
+    Left,
+    Open,
+}
+
+// What a slot's length says to a pop: above the payload capacity; above the buffer's length; neither.
+pub enum Fit {
+    Bad,
+    Small,
+    Good,
+}
+
+// How a wait ends: asleep; as a spurious return; as a time-out; failed.
+pub enum Nap {
+    Sleeps,
+    Returns,
+    Late,
+    Fails,
+}
+
+// Where a turn leads: nowhere; to another step; to rest, with the call's answer.
+pub enum Move {
+    Still,
+    To(Step),
+    End(Answer),
+}
+
+// What is to be known of a step apart from its turn.
+pub enum Stance {
+    Resting,
+    Sleeping,
+    Copying,
+    Publishing,
+    Closing,
+    Moving,
+}
+
+// Whether a failure of the turn's futex call is announced.
+pub enum Fault {
+    Fine,
+    Error(u16),
+}
+
+// Whom a turn woke.
+pub enum Woke {
+    Nobody,
+    SleeperOn(Bell),
+}
+
 // What a call or a turn gives back.
 pub struct Reply {
     pub party: Party,
     pub answer: Answer,
+}
+
+// The same, and whom the turn woke.
+pub struct Turned {
+    pub party: Party,
+    pub answer: Answer,
+    pub woke: Woke,
+}
+
+// Both parties, with their sleeping places.
+pub struct Bench {
+    pub sender: Party,
+    pub recorder: Party,
+}
+
+pub struct Played {
+    pub bench: Bench,
+    pub answer: Answer,
+}
+
+// What happens on a bench: a turn, its futex call failing with an error or not; what comes to a sleeper; a begin. A push
+// names whether it blocks, a tag and a length, a pop whether it blocks and its buffer's length.
+pub enum Event {
+    Turn(Side),
+    Failing(Side, u16),
+    Spurious(Side),
+    TimeOut(Side),
+    Push(bool, u16, u32),
+    Pop(bool, u32),
+    Close(Side),
+    Shutdown(Side),
 }
 
 // An answer as numbers. The operation of a failed futex call stands in the tag's place.

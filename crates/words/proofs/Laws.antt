@@ -1,13 +1,12 @@
 -- The laws of little-endian words, once over the width.
 use mathlib.Core.Path.{_≡_, refl, sym, ap, ap₂, _∙_}
 use mathlib.Core.List.{List, [], _∷_, _++_, append-nil}
-use mathlib.Core.Logic.{inl}
 use Prim.Native.Nat.{ℕ, zero, suc, _+_, _*_, _/_, _%_, _^_, _≤_, _<_}
 use native.Mathlib.Omega.{arith}
 use native.Mathlib.Nat.{add-zero, zero-add, add-suc, suc-add, pow-suc, pow-zero, mul-comm, mul-assoc, mul-left-comm, mul-add, add-assoc, one-mul, div-one, mod-lt, one-le-pow, div-div-eq-div-mul, div-lt-iff-lt-mul, zero-lt-suc}
-use lib.ListN.{length, getD, set, length-set}
+use lib.ListN.{length, getD}
 use lib.Arith.{mod-mul, digits-div, digits-mod}
-use lib.Seq.{sets, length-sets, getD-set-same, getD-append-add}
+use lib.Seq.{sets, length-sets, getD-append-add}
 use Rattle.words.specs.Bytes.{part}
 use Rattle.words.specs.Le.{leAt, leBytes, putLe}
 use Rattle.words.proofs.Sets.{Outside, Apart, outside, sets-other, sets-in, sets-append, sets-over, sets-swap, getD-part}

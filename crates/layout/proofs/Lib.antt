@@ -1,0 +1,7 @@
+pub mod SizeLaws
+pub mod Bools
+pub mod Covered
+pub mod Fields
+pub mod SlotLaws
+pub mod Headed
+pub mod Accepted

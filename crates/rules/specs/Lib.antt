@@ -1,0 +1,9 @@
+pub mod Sides
+pub mod Looks
+pub mod Steps
+pub mod Take
+pub mod Next
+pub mod Calls
+pub mod Access
+pub mod Turn
+pub mod Bench

@@ -1,0 +1,57 @@
+-- What a value that a turn loaded says to a party.
+use mathlib.Core.Bool.{Bool, _||_}
+use Prim.Native.Nat.{ℕ, _+_, _*_, _%_, _/_, _^_}
+use lib.Dec.{ltb, eqb}
+use Rattle.words.specs.Wrap.{minus}
+use Rattle.types.specs.Pick.{pick}
+use Rattle.types.specs.declared.Side.{Side}
+use Rattle.types.specs.declared.Side.the-variants.{Sender, Recorder}
+use Rattle.types.specs.declared.Mark.the-variants.{Shutdown}
+use Rattle.types.specs.declared.Room.{Room}
+use Rattle.types.specs.declared.Room.the-variants.{Corrupt, Stuck, Free}
+use Rattle.types.specs.declared.Door.{Door}
+use Rattle.types.specs.declared.Door.the-variants.{Shut, Left, Open}
+use Rattle.types.specs.declared.Fit.{Fit}
+use Rattle.types.specs.declared.Fit.the-variants.{Bad, Small, Good}
+use Rattle.types.specs.declared.Nap.{Nap}
+use Rattle.types.specs.declared.Nap.the-variants.{Sleeps, Returns, Late, Fails}
+use Rattle.types.specs.declared.SlotHead.{SlotHead}
+use Rattle.layout.specs.Flags.{worth, bitOn, closeMark}
+use Rattle.rules.specs.Sides.{other, used, limit}
+
+-- P1, C1, B3, W3: the other side's counter
+abbrev pub roomWith : (used capacity limit : ℕ) → Room
+roomWith used capacity limit = pick (ltb capacity used) Corrupt (pick (eqb used limit) Stuck Free)
+
+unfoldable pub roomOf : Side → (capacity own their : ℕ) → Room
+roomOf side capacity own their = roomWith (used side own their) capacity (limit side capacity)
+
+-- P4: tail equals old h. C4: head − old t equals capacity. The own counter has moved on by then
+unfoldable pub wasBlocked : Side → (capacity own their : ℕ) → Bool
+wasBlocked Sender capacity own their = eqb their (minus 64 own 1)
+wasBlocked Recorder capacity own their = eqb (minus 64 their (minus 64 own 1)) capacity
+
+-- B1, B4, W1, W4: shutdown before the other's close
+unfoldable pub doorOf : Side → (flags : ℕ) → Door
+doorOf side flags =
+    pick (bitOn (worth Shutdown) flags) Shut (pick (bitOn (worth (closeMark (other side))) flags) Left Open)
+
+-- C2: a slot's header as one number, as a turn hands it on
+abbrev pub headWord : SlotHead → ℕ
+headWord head = head .length + 2 ^ 16 * head .tag
+
+abbrev pub headLength : (word : ℕ) → ℕ
+headLength word = word % 2 ^ 16
+
+abbrev pub headTag : (word : ℕ) → ℕ
+headTag word = word / 2 ^ 16 % 2 ^ 16
+
+-- 8 before 15
+unfoldable pub fitOf : (length payloadCapacity buffer : ℕ) → Fit
+fitOf length payloadCapacity buffer = pick (ltb payloadCapacity length) Bad (pick (ltb buffer length) Small Good)
+
+-- B5, W5: the announced error (0: none), and whether the bell reads the epoch
+unfoldable pub napOf : (error : ℕ) → (same : Bool) → Nap
+napOf error same =
+    pick (eqb error 0) (pick same Sleeps Returns)
+    (pick (eqb error 4 || eqb error 11) Returns (pick (eqb error 110) Late Fails))
