@@ -5,7 +5,7 @@ use Prim.Native.Nat.{ℕ, _+_}
 use lib.Dec.{eqb}
 use lib.ListN.{length}
 use Rattle.types.specs.Pick.{pick}
-use Rattle.types.specs.Answers.{number, check, firstOf}
+use Rattle.types.specs.Answers.{number, Check, check, firstOf}
 use Rattle.types.specs.declared.Answer.{Answer}
 use Rattle.types.specs.declared.Answer.the-variants.{InvalidLayout, InvalidCapacity, InvalidSlotSize}
 use Rattle.layout.specs.Limits.{slotOk, powerOk, ringBytes, totalBytes}
@@ -13,13 +13,15 @@ use Rattle.layout.specs.Flags.{initialised, notFullOn}
 use Rattle.layout.specs.Header.{headed}
 
 -- in this order: 6, 5, 4
-unfoldable pub createAnswer : (bytes power slot : ℕ) → Answer
-createAnswer bytes power slot =
-    firstOf
-    (check (slotOk slot) InvalidSlotSize
+abbrev pub createChecks : (bytes power slot : ℕ) → List Check
+createChecks bytes power slot =
+    check (slotOk slot) InvalidSlotSize
     ∷ check (powerOk power) InvalidCapacity
     ∷ check (eqb bytes (totalBytes power slot)) InvalidLayout
-    ∷ [])
+    ∷ []
+
+unfoldable pub createAnswer : (bytes power slot : ℕ) → Answer
+createAnswer bytes power slot = firstOf (createChecks bytes power slot)
 
 abbrev pub firstFlags : Bool → ℕ
 firstFlags notfull = pick notfull (initialised + notFullOn) initialised

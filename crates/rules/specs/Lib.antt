@@ -7,3 +7,5 @@ pub mod Calls
 pub mod Access
 pub mod Turn
 pub mod Bench
+pub mod Given
+pub mod Leaves
