@@ -1,0 +1,63 @@
+// Copies and tests of runs of bytes in a lent slice.
+ghost use mathlib.Core.Path.{_≡_};
+ghost use mathlib.Core.List.{_++_};
+ghost use Prim.Native.Nat.{_+_, _≤_};
+ghost use lib.ListN.{length, drop, replicate};
+ghost use lib.Seq.{sets};
+ghost use Rattle.words.specs.Bytes.{part, zeros, bytesAre};
+
+// Copies all of src to dst from at on.
+pub fn copy_in(dst: &mut [u8], at: usize, src: &[u8])
+    requires { ⌜ at + length (now src) ≤ length (now dst) ⌝ }
+    ensures { λ _. ⌜ now (dst .exit) ≡ sets (now (dst .entry)) at (now (src .entry)) ⌝ }
+{
+    for k in 0..src.len() {
+        dst[at + k] = src[k];
+    }
+}
+
+// Copies the count bytes of src from at on to the start of dst.
+pub fn copy_out(src: &[u8], at: usize, count: usize, dst: &mut [u8])
+    requires { ⌜ (at + count ≤ length (now src)) × (count ≤ length (now dst)) ⌝ }
+    ensures { λ _. ⌜ now (dst .exit) ≡ part (now (src .entry)) at count ++ drop count (now (dst .entry)) ⌝ }
+{
+    copy_in(dst, 0, &src[at..at + count]);
+}
+
+// Zeros over the first count bytes.
+pub fn clear(s: &mut [u8], count: usize)
+    requires { ⌜ count ≤ length (now s) ⌝ }
+    ensures { λ _. ⌜ now (s .exit) ≡ sets (now (s .entry)) 0 (replicate count 0) ⌝ }
+{
+    for k in 0..count {
+        s[k] = 0;
+    }
+}
+
+// Whether the count bytes from at on are zero.
+pub fn all_zero(s: &[u8], count: usize, at: usize) -> bool
+    requires { ⌜ at + count ≤ length (now s) ⌝ }
+    ensures { λ r. ⌜ r ≡ zeros (now (s .entry)) count at ⌝ }
+{
+    let mut k = 0;
+    while k < count {
+        if s[at + k] != 0 {
+            return false;
+        }
+        k += 1;
+    }
+    true
+}
+
+// Whether the bytes of s from at on begin with those of t.
+pub fn same_bytes(s: &[u8], at: usize, t: &[u8]) -> bool
+    requires { ⌜ at + length (now t) ≤ length (now s) ⌝ }
+    ensures { λ r. ⌜ r ≡ bytesAre (now (s .entry)) at (now (t .entry)) ⌝ }
+{
+    for k in 0..t.len() {
+        if s[at + k] != t[k] {
+            return false;
+        }
+    }
+    true
+}

@@ -1,0 +1,77 @@
+// A slot of the ring: a part of the region that starts in its middle.
+ghost use mathlib.Core.Path.{_≡_};
+ghost use Prim.Native.Nat.{_+_, _^_, _<_, _≤_};
+ghost use lib.ListN.{length};
+ghost use Rattle.words.specs.Bytes.{part};
+ghost use Rattle.layout.specs.Limits.{slotHeadBytes};
+ghost use Rattle.layout.specs.Slots.{headOf, slotPut, bufferPut};
+use types::SlotHead;
+
+// Where the fields of a slot lie, from its start on.
+pub struct Slot {}
+
+impl Slot {
+    pub const LENGTH: usize = 0;
+
+    pub const TAG: usize = 2;
+
+    pub const FLAGS: usize = 4;
+
+    pub const ZERO: usize = 6;
+
+    pub const PAYLOAD: usize = 8;
+}
+
+pub fn read_head(slot: &[u8]) -> SlotHead
+    requires { ⌜ slotHeadBytes ≤ length (now slot) ⌝ }
+    ensures { λ r. ⌜ r ≡ headOf (now (slot .entry)) ⌝ }
+{
+    SlotHead {
+        length: words::load16(slot, Slot::LENGTH),
+        tag: words::load16(slot, Slot::TAG),
+    }
+}
+
+// The head of the slot of size bytes at at.
+pub fn head_at(region: &[u8], at: usize, size: usize) -> SlotHead
+    requires { ⌜ (slotHeadBytes ≤ size) × (at + size ≤ length (now region)) ⌝ }
+    ensures { λ r. ⌜ r ≡ headOf (part (now (region .entry)) at size) ⌝ }
+{
+    read_head(&region[at..at + size])
+}
+
+// Copies the first count bytes of the payload to the buffer's start.
+pub fn read_payload(slot: &[u8], count: usize, buffer: &mut [u8])
+    requires { ⌜ (slotHeadBytes + count ≤ length (now slot)) × (count ≤ length (now buffer)) ⌝ }
+    ensures { λ _. ⌜ now (buffer .exit) ≡ bufferPut (now (buffer .entry)) (now (slot .entry)) count ⌝ }
+{
+    runs::copy_out(slot, Slot::PAYLOAD, count, buffer);
+}
+
+// The same of the slot of size bytes at at.
+pub fn payload_at(region: &[u8], at: usize, size: usize, count: usize, buffer: &mut [u8])
+    requires { ⌜ (slotHeadBytes + count ≤ size) × (at + size ≤ length (now region)) × (count ≤ length (now buffer)) ⌝ }
+    ensures { λ _. ⌜ now (buffer .exit) ≡ bufferPut (now (buffer .entry)) (part (now (region .entry)) at size) count ⌝ }
+{
+    read_payload(&region[at..at + size], count, buffer);
+}
+
+// Writes a slot: nothing behind the payload.
+pub fn write(slot: &mut [u8], tag: u16, payload: &[u8])
+    requires { ⌜ (slotHeadBytes + length (now payload) ≤ length (now slot)) × (length (now payload) < 2 ^ 16) ⌝ }
+    ensures { λ _. ⌜ now (slot .exit) ≡ slotPut (now (slot .entry)) 0 tag (now (payload .entry)) ⌝ }
+{
+    words::store16(slot, Slot::LENGTH, payload.len() as u16);
+    words::store16(slot, Slot::TAG, tag);
+    words::store16(slot, Slot::FLAGS, 0);
+    words::store16(slot, Slot::ZERO, 0);
+    runs::copy_in(slot, Slot::PAYLOAD, payload);
+}
+
+// The same of the slot of size bytes at at.
+pub fn write_at(region: &mut [u8], at: usize, size: usize, tag: u16, payload: &[u8])
+    requires { ⌜ (slotHeadBytes + length (now payload) ≤ size) × (length (now payload) < 2 ^ 16) × (at + size ≤ length (now region)) ⌝ }
+    ensures { λ _. ⌜ now (region .exit) ≡ slotPut (now (region .entry)) at tag (now (payload .entry)) ⌝ }
+{
+    write(&mut region[at..at + size], tag, payload);
+}
