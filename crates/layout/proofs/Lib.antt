@@ -5,3 +5,4 @@ pub mod Fields
 pub mod SlotLaws
 pub mod Headed
 pub mod Accepted
+pub mod FlagLaws

@@ -1,25 +1,25 @@
 -- What the limits say of a power and of a slot size, and where the slots lie. 2 ^ 30 is the room that a capacity has in a
 -- word: sums of sizes fit 64 bits for every slot size of 32 bits, also where a limit is raised within that room.
-use mathlib.Core.Path.{_≡_, refl, ap}
+use mathlib.Core.Path.{_≡_, refl}
 use mathlib.Core.Bool.{Bool, true, false, _&&_}
-use mathlib.Core.Logic.{_⊎_, inl, inr}
-use Prim.Native.Nat.{ℕ, suc, _+_, _*_, _%_, _^_, _≤_, _<_}
+use mathlib.Core.Logic.{inl, inr}
+use Prim.Native.Nat.{ℕ, _+_, _*_, _%_, _^_, _≤_, _<_}
 use native.Mathlib.Omega.{arith}
 use native.Mathlib.Decide.{decLt}
 use native.Mathlib.Nat.{mod-lt, mul-le-mul-right, suc-mul}
 use borrow.Author.Tests.{leb-true, eqb-true, le-leb}
 use lib.Dec.{leb, eqb}
-use lib.Pow.{pow-mono, pow-lt}
+use lib.Pow.{pow-mono}
 use Rattle.types.specs.Pick.{pick}
 use Rattle.words.proofs.Sets.{Apart}
 use Rattle.layout.specs.Limits.{leastPower, mostPower, leastSlot, mostSlot, slotStep, headerBytes, powerOk, slotOk, capacity, ringBytes, totalBytes}
 use Rattle.layout.specs.Slots.{slotAt}
 
-pub and-left : (a b : Bool) → (a && b) ≡ true → a ≡ true
+and-left : (a b : Bool) → (a && b) ≡ true → a ≡ true
 and-left true b e = refl
 and-left false b e = e
 
-pub and-right : (a b : Bool) → (a && b) ≡ true → b ≡ true
+and-right : (a b : Bool) → (a && b) ≡ true → b ≡ true
 and-right true b e = e
 and-right false b e = let z : _≡_ {A = ℕ} 0 1 = cc in absurd (omega arith)
 
