@@ -2,7 +2,7 @@
 use mathlib.Core.Path.{_≡_, refl, ap, _∙_}
 use mathlib.Core.Bool.{Bool, true, false}
 use mathlib.Core.List.{List}
-use Prim.Native.Nat.{ℕ, _+_, _^_, _<_, _≤_}
+use Prim.Native.Nat.{ℕ, _+_, _<_, _≤_}
 use native.Mathlib.Decide.{decLt}
 use native.Mathlib.Omega.{arith}
 use lib.ListN.{length, getD, length-take, List·getD-eq-default}
@@ -12,7 +12,6 @@ use Rattle.words.proofs.Laws.{leAt-lt}
 use Rattle.types.specs.declared.Side.{Side}
 use Rattle.types.specs.declared.Side.the-variants.{Recorder}
 use Rattle.types.specs.declared.Party.{Party}
-use Rattle.types.specs.declared.SlotHead.{SlotHead}
 use Rattle.types.specs.declared.Turned.{Turned}
 use Rattle.types.specs.declared.Fault.{Fault}
 use Rattle.types.specs.declared.Fit.{Fit}
@@ -31,17 +30,18 @@ use Rattle.types.specs.declared.Access.the-variants.{None, LoadCounter, LoadFla
 use Rattle.layout.specs.Limits.{payloadCapacity}
 use Rattle.layout.specs.Slots.{headOf}
 use Rattle.rules.specs.Sides.{other, sleepBell}
-use Rattle.rules.specs.Looks.{headWord, headLength, fitOf}
+use Rattle.rules.specs.Looks.{headLength, fitOf}
 use Rattle.rules.specs.Take.{stanceOf, answerOf, stepAfter, closedAfter, counterAfter, moveOf, takeSpec}
 use Rattle.rules.specs.Next.{slotAccess, nextAt, nextSpec}
 use Rattle.rules.specs.Access.{placeOf, slotOf, valueOf, leavesOf, copiedOut, bufferOf}
 use Rattle.rules.specs.Turn.{errorOf, taken, wokeOf, runSpec, runLeaves, runBuffer, turnSpec, turnLeaves, turnBuffer}
 use Rattle.rules.specs.Given.{Ends, published, checked, woke, closed-alone, closed, shut, corrupt, bad-slot, too-small, full, empty, left, left-again, down, down-again, late, wake-failed, close-failed, wait-failed, shut-failed, shut-failed-last, resting, asleep, goes-on, turn}
 use Rattle.rules.specs.Leaves.{Leaves}
+use Rattle.rules.proofs.HeadWords.{head-length}
 use Rattle.rules.proofs.Answered.{ends-only}
 
 -- a party after a turn, by its stance and its move alone
-made : Party → Stance → Move → Party
+unfoldable pub made : Party → Stance → Move → Party
 made p s m = record {
   own = p .own;
   closed = closedAfter s (p .closed);
@@ -92,10 +92,6 @@ rests-by Still s x e t = absurd (let z : _≡_ {A = ℕ} 0 1 = cc in omega arith
 rests-by (To n) s x e t = absurd (let z : _≡_ {A = ℕ} 0 1 = cc in omega arith)
 rests-by (End a) s x e t = refl
 
--- the length that a copy goes by is the slot's
-head-length : (h : SlotHead) → h .length < 2 ^ 16 → headLength (headWord h) ≡ h .length
-head-length h l = omega arith
-
 part-bytes : (r : List ℕ) (i n : ℕ) → ((k : ℕ) → getD r k 0 < 256) → (k : ℕ) → getD (part r i n) k 0 < 256
 part-bytes r i n h k = by (decLt k n)
   where
@@ -109,19 +105,19 @@ module _ (side : Side) (r : List ℕ) (p : Party) (i o : List ℕ) (f : Fault) (
   abbrev value : ℕ
   value = valueOf r (p .own) (nextSpec p)
 
-  turn-is : turnSpec side r p i o f ≡ runSpec r p (errorOf f)
+  pub turn-is : turnSpec side r p i o f ≡ runSpec r p (errorOf f)
   unfolding turnSpec
   turn-is = rw g
 
-  leaves-is : turnLeaves side r p i o f ≡ runLeaves r p i
+  pub leaves-is : turnLeaves side r p i o f ≡ runLeaves r p i
   unfolding turnLeaves
   leaves-is = rw g
 
-  buffer-is : turnBuffer side r p i o f ≡ runBuffer r p o
+  pub buffer-is : turnBuffer side r p i o f ≡ runBuffer r p o
   unfolding turnBuffer
   buffer-is = rw g
 
-  party-is : turnSpec side r p i o f .party ≡ made p (stanceOf (p .step)) (moveOf p value (errorOf f))
+  pub party-is : turnSpec side r p i o f .party ≡ made p (stanceOf (p .step)) (moveOf p value (errorOf f))
   unfolding made runSpec takeSpec
   party-is = ap (λ (t : Turned). t .party) turn-is
 
@@ -136,7 +132,7 @@ module _ (side : Side) (r : List ℕ) (p : Party) (i o : List ℕ) (f : Fault) (
   unfolding runLeaves runBuffer
   looks-kept a n l b = (leaves-is ∙ rw n l, buffer-is ∙ rw n b)
 
-  next-is : (s : Step) → p .step ≡ s → nextSpec p ≡ nextAt s (p .own .side) (p .counter)
+  pub next-is : (s : Step) → p .step ≡ s → nextSpec p ≡ nextAt s (p .own .side) (p .counter)
   unfolding nextSpec
   next-is s e = ap (λ (t : Step). nextAt t (p .own .side) (p .counter)) e
 

@@ -1,3 +1,16 @@
+pub mod HeadWords
 pub mod Answered
 pub mod Left
 pub mod Refusals
+pub mod Frames
+pub mod Real
+pub mod After
+pub mod Rooms
+pub mod Leads
+pub mod Does
+pub mod Kept
+pub mod Seats
+pub mod Ring
+pub mod Hands
+pub mod Copies
+pub mod Taken

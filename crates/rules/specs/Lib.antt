@@ -9,3 +9,4 @@ pub mod Turn
 pub mod Bench
 pub mod Given
 pub mod Leaves
+pub mod Run

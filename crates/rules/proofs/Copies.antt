@@ -1,0 +1,105 @@
+-- A copy turn: a push's slot holds its note, and a pop that fits has the first waiting note in its buffer.
+use mathlib.Core.Path.{_≡_, refl, sym, ap, _∙_}
+use mathlib.Core.Bool.{Bool, true, false}
+use mathlib.Core.List.{List, _++_}
+use Prim.Native.Nat.{ℕ, _+_, _-_, _^_, _<_, _≤_}
+use native.Mathlib.Omega.{arith}
+use borrow.Author.Tests.{ltb-false}
+use lib.Dec.{ltb}
+use lib.ListN.{length, drop, length-append}
+use lib.Seq.{take-at}
+use Rattle.words.specs.Wrap.{plus}
+use Rattle.types.specs.Pick.{pick}
+use Rattle.types.specs.declared.Side.the-variants.{Sender, Recorder}
+use Rattle.types.specs.declared.SlotHead.{SlotHead}
+use Rattle.types.specs.declared.Own.{Own}
+use Rattle.types.specs.declared.Fit.{Fit}
+use Rattle.types.specs.declared.Fit.the-variants.{Bad, Small, Good}
+use Rattle.types.specs.declared.Step.the-variants.{Copy}
+use Rattle.types.specs.declared.Access.the-variants.{WriteSlot, ReadSlot}
+use Rattle.layout.specs.Limits.{slotHeadBytes, powerOk, slotOk, payloadCapacity}
+use Rattle.layout.specs.Slots.{slotAt, headOf, bufferPut}
+use Rattle.layout.proofs.SizeLaws.{slot-least, slot-most, slot-within}
+use Rattle.layout.proofs.SlotLaws.{put-head, put-payload}
+use Rattle.rules.specs.Looks.{headWord, headLength, headTag, fitOf}
+use Rattle.rules.specs.Steps.{fitMove}
+use Rattle.rules.specs.Take.{stepAfter}
+use Rattle.rules.specs.Access.{slotOf, valueOf, leavesOf, bufferOf}
+use Rattle.rules.specs.Run.{Note, Trace, buffered}
+use Rattle.rules.proofs.HeadWords.{head-length, head-tag}
+use Rattle.rules.proofs.Real.{phase, sizes, nth, HoldsAt, InHand, Fixed}
+
+-- a fit that is good
+pub fit-good : (n most named : ℕ) → fitOf n most named ≡ Good → (n ≤ most) × (n ≤ named)
+unfolding fitOf
+fit-good n most named e = by (ltb most n) (ltb named n) refl refl e
+  where
+    by : (a b : Bool) → ltb most n ≡ a → ltb named n ≡ b → pick a Bad (pick b Small Good) ≡ Good → (n ≤ most) × (n ≤ named)
+    by true b p q e = absurd (let z : _≡_ {A = ℕ} 0 1 = cc in omega arith)
+    by false true p q e = absurd (let z : _≡_ {A = ℕ} 0 1 = cc in omega arith)
+    by false false p q e = (ltb-false most n p, ltb-false named n q)
+
+module _ (P S v : ℕ) (on : Bool) (power-ok : powerOk P ≡ true) (slot-ok : slotOk S ≡ true) (r : List ℕ) (fixed : Fixed P S v on r) (t : Trace) where
+  slot-in : (c : ℕ) → slotAt P S c + S ≤ length r
+  slot-in c = omega (arith, slot-within P power-ok S c, fixed .long)
+
+  -- payloads are shorter than 2^16
+  short : (n : ℕ) → n ≤ payloadCapacity S → n < 2 ^ 16
+  unfolding payloadCapacity
+  short n h = omega (arith, slot-most S slot-ok)
+
+  in-slot : (n : ℕ) → n ≤ payloadCapacity S → slotHeadBytes + n ≤ S
+  unfolding payloadCapacity
+  in-slot n h = omega (arith, slot-least S slot-ok)
+
+  -- P2
+  pub copy-written : (own : Own) (c tag : ℕ) (payload : List ℕ) → own ≡ sizes P S v on Sender → c ≡ plus 64 v (length (t .sent)) → tag < 2 ^ 16 → length payload ≤ payloadCapacity S
+      → HoldsAt P S v on (leavesOf r own (WriteSlot c) tag payload) (length (t .sent)) (record { tag = tag; body = payload })
+  unfolding leavesOf
+  copy-written own c tag payload o e g f =
+      rw (o, e) record {
+        head = put-head r (slotAt P S (plus 64 v (length (t .sent)))) S tag payload (slot-in (plus 64 v (length (t .sent)))) (in-slot (length payload) f) (short (length payload) f) g;
+        payload = put-payload r (slotAt P S (plus 64 v (length (t .sent)))) S tag payload (slot-in (plus 64 v (length (t .sent)))) (in-slot (length payload) f);
+        tag-small = g;
+        body-fits = f;
+      }
+
+  -- C2
+  module _ (own : Own) (c : ℕ) (o : own ≡ sizes P S v on Recorder) (e : c ≡ plus 64 v (length (t .got))) (n : Note) (holds : HoldsAt P S v on r (length (t .got)) n) where
+    abbrev slot : List ℕ
+    slot = slotOf r own c
+
+    slot-is : slot ≡ slotOf r (sizes P S v on Sender) (plus 64 v (length (t .got)))
+    slot-is = rw (o, e)
+
+    pub head-is : headOf slot ≡ record { length = length (n .body); tag = n .tag }
+    head-is = ap headOf slot-is ∙ holds .head
+
+    abbrev word : ℕ
+    word = valueOf r own (ReadSlot c)
+
+    pub length-is : headLength word ≡ length (n .body)
+    unfolding valueOf
+    length-is = ap (λ (h : SlotHead). headLength (headWord h)) head-is ∙ head-length (record { length = length (n .body); tag = n .tag }) (short (length (n .body)) (holds .body-fits))
+
+    tag-is : headTag word ≡ n .tag
+    unfolding valueOf
+    tag-is = ap (λ (h : SlotHead). headTag (headWord h)) head-is ∙ head-tag (record { length = length (n .body); tag = n .tag }) (short (length (n .body)) (holds .body-fits)) (holds .tag-small)
+
+    -- what a copy that fits leaves in the buffer
+    filled : (named : ℕ) (lent : List ℕ) → fitOf (length (n .body)) (payloadCapacity (own .slot)) named ≡ Good → bufferOf r own (ReadSlot c) named lent ≡ n .body ++ drop (length (n .body)) lent
+    unfolding bufferOf bufferPut
+    filled named lent g =
+        let h : headOf slot .length ≡ length (n .body) = ap (λ (x : SlotHead). x .length) head-is in
+        rw (h, g, slot-is, holds .payload)
+
+    -- the next step and the hand, by how it fits
+    pub copy-read : (named : ℕ) (lent : List ℕ) → length lent ≡ named → (f : Fit) → fitOf (headLength word) (payloadCapacity (own .slot)) named ≡ f → nth (t .sent) (length (t .got)) ≡ n
+        → (r′ : List ℕ) → InHand P S v on Recorder (phase (stepAfter (fitMove f (headLength word) (headTag word)) Copy)) r′ (buffered (bufferOf r own (ReadSlot c) named lent) t)
+    copy-read named lent long Bad g first r′ = tt
+    copy-read named lent long Small g first r′ = tt
+    copy-read named lent long Good g first r′ =
+        let k : fitOf (length (n .body)) (payloadCapacity (own .slot)) named ≡ Good = rw length-is at g in
+        let s = fit-good (length (n .body)) (payloadCapacity (own .slot)) named k in
+        rw (length-is, tag-is, filled named lent k)
+        (rw length-append (omega arith), first ∙ ap (λ (b : List ℕ). record { tag = n .tag; body = b }) (sym (take-at (n .body) (drop (length (n .body)) lent) (length (n .body)) refl)))

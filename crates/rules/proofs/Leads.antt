@@ -1,0 +1,192 @@
+-- Where a turn may lead, with what it then knows: one row a way. k is the own room, x the other's, z whether it should stop,
+-- m whether it blocks, r whether it rings, b its bell.
+use mathlib.Core.Path.{_≡_, refl, sym, _∙_}
+use mathlib.Core.Bool.{Bool, true, false, _||_}
+use Prim.Native.Nat.{ℕ, zero, suc, _%_, _^_, _<_}
+use native.Mathlib.Omega.{arith}
+use borrow.Author.Tests.{eqb-true, eqb-false}
+use lib.Dec.{eqb}
+use Rattle.types.specs.Pick.{pick}
+use Rattle.types.specs.declared.Side.{Side}
+use Rattle.types.specs.declared.Side.the-variants.{Sender, Recorder}
+use Rattle.types.specs.declared.Own.{Own}
+use Rattle.types.specs.declared.Mark.the-variants.{Shutdown}
+use Rattle.types.specs.declared.Door.{Door}
+use Rattle.types.specs.declared.Door.the-variants.{Shut, Left, Open}
+use Rattle.types.specs.declared.Fit.{Fit}
+use Rattle.types.specs.declared.Fit.the-variants.{Bad, Small, Good}
+use Rattle.types.specs.declared.Nap.{Nap}
+use Rattle.types.specs.declared.Nap.the-variants.{Sleeps, Returns, Late, Fails}
+use Rattle.types.specs.declared.Step.{Step}
+use Rattle.types.specs.declared.Step.the-variants.{Rest, Look, Copy, Publish, Check, Raise, Wake, Gate, Epoch, Again, GateAgain, Wait, Asleep, CloseSet, CloseRaise, CloseWake, ShutSet, ShutRaiseNe, ShutWakeNe, ShutRaiseNf, ShutWakeNf}
+use Rattle.types.specs.declared.Answer.the-variants.{Done}
+use Rattle.types.specs.declared.Move.the-variants.{To, End}
+use Rattle.layout.specs.Limits.{capacity, payloadCapacity}
+use Rattle.layout.specs.Flags.{worth, bitOn, closeMark}
+use Rattle.rules.specs.Sides.{other, rings, sleepBell, waitOp}
+use Rattle.rules.specs.Looks.{roomOf, wasBlocked, doorOf, headLength, headTag, fitOf, napOf}
+use Rattle.rules.specs.Steps.{roomMove, stuckMove, lookMove, fitMove, copyWith, copyMove, publishMove, checkMove, wakeMove, doorMove, gateMove, againMove, napMove, waitMove, closeMove, shutMove}
+use Rattle.rules.specs.Take.{moveAt, stepAfter}
+use Rattle.rules.proofs.Rooms.{asRoom}
+
+-- should a side stop? By the flags
+abbrev pub stopAt : Side → (flags : ℕ) → Bool
+stopAt side flags = bitOn (worth Shutdown) flags || bitOn (worth (closeMark (other side))) flags
+
+pub data Leads (k x : ℕ) (z m r : Bool) (b : ℕ) : Step → Step → Type 0 where
+  idles : Leads k x z m r b Rest Rest
+  finds : 0 < k → Leads k x z m r b Look Copy
+  blocks : k ≡ 0 → m ≡ true → Leads k x z m r b Look Gate
+  gives-up : k ≡ 0 → Leads k x z m r b Look Rest
+  copies : {l t : ℕ} → Leads k x z m r b Copy (Publish l t)
+  spills : Leads k x z m r b Copy Rest
+  tells : {l t : ℕ} → r ≡ true → Leads k x z m r b (Publish l t) (Check l t)
+  stores : {l t : ℕ} → r ≡ false → Leads k x z m r b (Publish l t) Rest
+  owes : {l t : ℕ} → x ≡ 1 → Leads k x z m r b (Check l t) (Raise l t)
+  passes : {l t : ℕ} → (x ≡ 1 → ⊥) → Leads k x z m r b (Check l t) Rest
+  raises : {l t : ℕ} → Leads k x z m r b (Raise l t) (Wake l t)
+  wakes : {l t : ℕ} → Leads k x z m r b (Wake l t) Rest
+  enters : z ≡ false → Leads k x z m r b Gate Epoch
+  stops : z ≡ true → Leads k x z m r b Gate Rest
+  reads : Leads k x z m r b Epoch (Again (b % 2 ^ 32))
+  finds-again : {e : ℕ} → 0 < k → Leads k x z m r b (Again e) Copy
+  stays : {e : ℕ} → k ≡ 0 → Leads k x z m r b (Again e) (GateAgain e)
+  enters-again : {e : ℕ} → z ≡ false → Leads k x z m r b (GateAgain e) (Wait e)
+  stops-again : {e : ℕ} → z ≡ true → Leads k x z m r b (GateAgain e) Rest
+  sleeps : {e : ℕ} → b ≡ e → Leads k x z m r b (Wait e) Asleep
+  returns : {e : ℕ} → Leads k x z m r b (Wait e) Look
+  ends : {e : ℕ} → Leads k x z m r b (Wait e) Rest
+  dreams : Leads k x z m r b Asleep Asleep
+  closes : r ≡ true → Leads k x z m r b CloseSet CloseRaise
+  closes-alone : r ≡ false → Leads k x z m r b CloseSet Rest
+  close-raises : Leads k x z m r b CloseRaise CloseWake
+  close-wakes : Leads k x z m r b CloseWake Rest
+  shuts : {c : Bool} → Leads k x z m r b (ShutSet c) (ShutRaiseNe c)
+  shut-raises : {c : Bool} → Leads k x z m r b (ShutRaiseNe c) (ShutWakeNe c)
+  shut-wakes : {c : Bool} {f : ℕ} → Leads k x z m r b (ShutWakeNe c) (ShutRaiseNf c f)
+  shut-raises-again : {c : Bool} {f : ℕ} → Leads k x z m r b (ShutRaiseNf c f) (ShutWakeNf c f)
+  shut-wakes-again : {c : Bool} {f : ℕ} → Leads k x z m r b (ShutWakeNf c f) Rest
+
+module _ (k x : ℕ) (z m r : Bool) (b : ℕ) where
+  abbrev L : Step → Step → Type 0
+  L s t = Leads k x z m r b s t
+
+  look-leads : (side : Side) (j : ℕ) → k ≡ j → (n : Bool) → m ≡ n → L Look (stepAfter (roomMove (asRoom j) (stuckMove n side)) Look)
+  look-leads side (suc j) q n h = finds (omega arith)
+  look-leads side zero q true h = blocks q h
+  look-leads side zero q false h = gives-up q
+
+  again-leads : (e j : ℕ) → k ≡ j → L (Again e) (stepAfter (roomMove (asRoom j) (To (GateAgain e))) (Again e))
+  again-leads e (suc j) q = finds-again (omega arith)
+  again-leads e zero q = stays q
+
+  copy-leads : (side : Side) (f : Fit) (l t : ℕ) → L Copy (stepAfter (copyWith side (fitMove f l t)) Copy)
+  copy-leads Sender f l t = copies
+  copy-leads Recorder Bad l t = spills
+  copy-leads Recorder Small l t = spills
+  copy-leads Recorder Good l t = copies
+
+  publish-leads : (l t : ℕ) (n : Bool) → r ≡ n → L (Publish l t) (stepAfter (pick n (To (Check l t)) (End (Done l t))) (Publish l t))
+  publish-leads l t true h = tells h
+  publish-leads l t false h = stores h
+
+  check-leads : (l t : ℕ) (n : Bool) → eqb x 1 ≡ n → L (Check l t) (stepAfter (pick n (To (Raise l t)) (End (Done l t))) (Check l t))
+  check-leads l t true h = owes (eqb-true x 1 h)
+  check-leads l t false h = passes (eqb-false x 1 h)
+
+  -- the door is open where it should not stop
+  abbrev Stands : Door → Type 0
+  Stands Shut = z ≡ true
+  Stands Left = z ≡ true
+  Stands Open = z ≡ false
+
+  door-stop : (a c : Bool) → (a || c) ≡ z → (d : Door) → pick a Shut (pick c Left Open) ≡ d → Stands d
+  door-stop true c h d e = rw (← e) (sym h)
+  door-stop false true h d e = rw (← e) (sym h)
+  door-stop false false h d e = rw (← e) (sym h)
+
+  gate-leads : (d : Door) → Stands d → L Gate (stepAfter (doorMove d Epoch) Gate)
+  gate-leads Shut h = stops h
+  gate-leads Left h = stops h
+  gate-leads Open h = enters h
+
+  gate-again-leads : (e : ℕ) (d : Door) → Stands d → L (GateAgain e) (stepAfter (doorMove d (Wait e)) (GateAgain e))
+  gate-again-leads e Shut h = stops-again h
+  gate-again-leads e Left h = stops-again h
+  gate-again-leads e Open h = enters-again h
+
+  wait-leads : (e op f : ℕ) (n : Nap) → (n ≡ Sleeps → b ≡ e) → L (Wait e) (stepAfter (napMove n op f) (Wait e))
+  wait-leads e op f Sleeps h = sleeps (h refl)
+  wait-leads e op f Returns h = returns
+  wait-leads e op f Late h = ends
+  wait-leads e op f Fails h = ends
+
+  close-leads : (n : Bool) → r ≡ n → L CloseSet (stepAfter (pick n (To CloseRaise) (End (Done 0 0))) CloseSet)
+  close-leads true h = closes h
+  close-leads false h = closes-alone h
+
+-- a wait sleeps only over the epoch
+nap-sleeps : (f : ℕ) (s : Bool) → napOf f s ≡ Sleeps → s ≡ true
+unfolding napOf
+nap-sleeps f s e = by (eqb f 0) s (eqb f 4 || eqb f 11) (eqb f 110) e
+  where
+    by : (a s c d : Bool) → pick a (pick s Sleeps Returns) (pick c Returns (pick d Late Fails)) ≡ Sleeps → s ≡ true
+    by true true c d e = refl
+    by true false c d e = absurd (let q : _≡_ {A = ℕ} 0 1 = cc in omega arith)
+    by false s true d e = absurd (let q : _≡_ {A = ℕ} 0 1 = cc in omega arith)
+    by false s false true e = absurd (let q : _≡_ {A = ℕ} 0 1 = cc in omega arith)
+    by false s false false e = absurd (let q : _≡_ {A = ℕ} 0 1 = cc in omega arith)
+
+-- what a turn's value has to say, by the step
+abbrev pub Tells : (own : Own) → (k x : ℕ) (z : Bool) (b : ℕ) → (counter value : ℕ) → Step → Type 0
+Tells own k x z b c v Rest = Unit
+Tells own k x z b c v Look = roomOf (own .side) (capacity (own .power)) c v ≡ asRoom k
+Tells own k x z b c v Copy = Unit
+Tells own k x z b c v (Publish l t) = Unit
+Tells own k x z b c v (Check l t) = wasBlocked (own .side) (capacity (own .power)) c v ≡ eqb x 1
+Tells own k x z b c v (Raise l t) = Unit
+Tells own k x z b c v (Wake l t) = Unit
+Tells own k x z b c v Gate = stopAt (own .side) v ≡ z
+Tells own k x z b c v Epoch = v ≡ b
+Tells own k x z b c v (Again e) = roomOf (own .side) (capacity (own .power)) c v ≡ asRoom k
+Tells own k x z b c v (GateAgain e) = stopAt (own .side) v ≡ z
+Tells own k x z b c v (Wait e) = v ≡ b
+Tells own k x z b c v Asleep = Unit
+Tells own k x z b c v CloseSet = Unit
+Tells own k x z b c v CloseRaise = Unit
+Tells own k x z b c v CloseWake = Unit
+Tells own k x z b c v (ShutSet q) = Unit
+Tells own k x z b c v (ShutRaiseNe q) = Unit
+Tells own k x z b c v (ShutWakeNe q) = Unit
+Tells own k x z b c v (ShutRaiseNf q f) = Unit
+Tells own k x z b c v (ShutWakeNf q f) = Unit
+
+pub leads : (own : Own) (k x : ℕ) (z : Bool) (b c : ℕ) (m : Bool) (l v f : ℕ) (s : Step) → Tells own k x z b c v s
+    → Leads k x z m (rings (own .side) (own .notfull)) b s (stepAfter (moveAt s own c m l v f) s)
+unfolding lookMove copyMove publishMove checkMove wakeMove gateMove againMove waitMove closeMove shutMove doorOf
+leads own k x z b c m l v f Rest h = idles
+leads own k x z b c m l v f Look h = rw h (look-leads k x z m (rings (own .side) (own .notfull)) b (own .side) k refl m refl)
+leads own k x z b c m l v f Copy h = copy-leads k x z m (rings (own .side) (own .notfull)) b (own .side) (fitOf (headLength v) (payloadCapacity (own .slot)) l) (headLength v) (headTag v)
+leads own k x z b c m l v f (Publish n t) h = publish-leads k x z m (rings (own .side) (own .notfull)) b n t (rings (own .side) (own .notfull)) refl
+leads own k x z b c m l v f (Check n t) h = rw h (check-leads k x z m (rings (own .side) (own .notfull)) b n t (eqb x 1) refl)
+leads own k x z b c m l v f (Raise n t) h = raises
+leads own k x z b c m l v f (Wake n t) h = wakes
+leads own k x z b c m l v f Gate h =
+    let d : Door = pick (bitOn (worth Shutdown) v) Shut (pick (bitOn (worth (closeMark (other (own .side)))) v) Left Open) in
+    gate-leads k x z m (rings (own .side) (own .notfull)) b d (door-stop k x z m (rings (own .side) (own .notfull)) b (bitOn (worth Shutdown) v) (bitOn (worth (closeMark (other (own .side)))) v) h d refl)
+leads own k x z b c m l v f Epoch h = rw h reads
+leads own k x z b c m l v f (Again e) h = rw h (again-leads k x z m (rings (own .side) (own .notfull)) b e k refl)
+leads own k x z b c m l v f (GateAgain e) h =
+    let d : Door = pick (bitOn (worth Shutdown) v) Shut (pick (bitOn (worth (closeMark (other (own .side)))) v) Left Open) in
+    gate-again-leads k x z m (rings (own .side) (own .notfull)) b e d (door-stop k x z m (rings (own .side) (own .notfull)) b (bitOn (worth Shutdown) v) (bitOn (worth (closeMark (other (own .side)))) v) h d refl)
+leads own k x z b c m l v f (Wait e) h =
+    wait-leads k x z m (rings (own .side) (own .notfull)) b e (waitOp (sleepBell (own .side))) f (napOf f (eqb v e)) (λ q. sym h ∙ eqb-true v e (nap-sleeps f (eqb v e) q))
+leads own k x z b c m l v f Asleep h = dreams
+leads own k x z b c m l v f CloseSet h = close-leads k x z m (rings (own .side) (own .notfull)) b (rings (own .side) (own .notfull)) refl
+leads own k x z b c m l v f CloseRaise h = close-raises
+leads own k x z b c m l v f CloseWake h = close-wakes
+leads own k x z b c m l v f (ShutSet q) h = shuts
+leads own k x z b c m l v f (ShutRaiseNe q) h = shut-raises
+leads own k x z b c m l v f (ShutWakeNe q) h = shut-wakes
+leads own k x z b c m l v f (ShutRaiseNf q e) h = shut-raises-again
+leads own k x z b c m l v f (ShutWakeNf q e) h = shut-wakes-again

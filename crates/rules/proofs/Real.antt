@@ -1,0 +1,177 @@
+-- What holds of every world that a run reaches: the invariant of order and count.
+use mathlib.Core.Path.{_≡_}
+use mathlib.Core.Bool.{Bool, true, false}
+use mathlib.Core.List.{List, [], _∷_, _++_}
+use Prim.Native.Nat.{ℕ, _+_, _-_, _%_, _^_, _<_, _≤_}
+use lib.ListN.{length, getD, take}
+use Rattle.words.specs.Le.{leAt}
+use Rattle.words.specs.Wrap.{plus}
+use Rattle.types.specs.declared.Side.{Side}
+use Rattle.types.specs.declared.Side.the-variants.{Sender, Recorder}
+use Rattle.types.specs.declared.Own.{Own}
+use Rattle.types.specs.declared.Party.{Party}
+use Rattle.types.specs.declared.Step.{Step}
+use Rattle.types.specs.declared.Step.the-variants.{Rest, Look, Copy, Publish, Check, Raise, Wake, Gate, Epoch, Again, GateAgain, Wait, Asleep, CloseSet, CloseRaise, CloseWake, ShutSet, ShutRaiseNe, ShutWakeNe, ShutRaiseNf, ShutWakeNf}
+use Rattle.layout.specs.Limits.{capacity, payloadCapacity, totalBytes}
+use Rattle.layout.specs.Flags.{worth, notFullOn, reservedFrom, bitOn, attachMark, closeMark}
+use Rattle.layout.specs.Header.{powerAt, slotSizeAt, flagsAt, counterAt, bellAt}
+use Rattle.layout.specs.Slots.{headOf, payloadIn}
+use Rattle.rules.specs.Sides.{sleepBell}
+use Rattle.rules.specs.Access.{slotOf}
+use Rattle.rules.specs.Run.{Note, Trace, World, partyIn}
+
+-- a step, as far as the invariants care: telling is what follows a store, armed to waits is what follows an epoch
+pub data Phase : Type 0 where
+  resting looking copying : Phase
+  publishing telling : (length tag : ℕ) → Phase
+  asking : Phase
+  armed poised waits : (epoch : ℕ) → Phase
+  sleeps leaving : Phase
+
+abbrev pub phase : Step → Phase
+phase Rest = resting
+phase Look = looking
+phase Copy = copying
+phase (Publish l t) = publishing l t
+phase (Check l t) = telling l t
+phase (Raise l t) = telling l t
+phase (Wake l t) = telling l t
+phase Gate = asking
+phase Epoch = asking
+phase (Again e) = armed e
+phase (GateAgain e) = poised e
+phase (Wait e) = waits e
+phase Asleep = sleeps
+phase CloseSet = leaving
+phase CloseRaise = leaving
+phase CloseWake = leaving
+phase (ShutSet c) = leaving
+phase (ShutRaiseNe c) = leaving
+phase (ShutWakeNe c) = leaving
+phase (ShutRaiseNf c e) = leaving
+phase (ShutWakeNf c e) = leaving
+
+-- how many notes a side has published, and how often its bell was raised since its epoch
+abbrev pub countOf : Side → Trace → ℕ
+countOf Sender t = length (t .sent)
+countOf Recorder t = length (t .got)
+
+abbrev pub rungOf : Side → Trace → ℕ
+rungOf Sender t = t .rungSender
+rungOf Recorder t = t .rungRecorder
+
+-- one at a copy or a store has room
+abbrev pub HasRoom : Phase → ℕ → Type 0
+HasRoom resting k = Unit
+HasRoom looking k = Unit
+HasRoom copying k = 0 < k
+HasRoom (publishing l t) k = 0 < k
+HasRoom (telling l t) k = Unit
+HasRoom asking k = Unit
+HasRoom (armed e) k = Unit
+HasRoom (poised e) k = Unit
+HasRoom (waits e) k = Unit
+HasRoom sleeps k = Unit
+HasRoom leaving k = Unit
+
+-- one that carries an epoch knows how often its bell was raised since, wrapped
+abbrev pub Since : Phase → (bell rung : ℕ) → Type 0
+Since resting bell rung = Unit
+Since looking bell rung = Unit
+Since copying bell rung = Unit
+Since (publishing l t) bell rung = Unit
+Since (telling l t) bell rung = Unit
+Since asking bell rung = Unit
+Since (armed e) bell rung = bell % 2 ^ 32 ≡ plus 32 e rung
+Since (poised e) bell rung = bell % 2 ^ 32 ≡ plus 32 e rung
+Since (waits e) bell rung = bell % 2 ^ 32 ≡ plus 32 e rung
+Since sleeps bell rung = Unit
+Since leaving bell rung = Unit
+
+abbrev pub blank : Note
+blank = record { tag = 0; body = [] }
+
+-- the i-th note of a list
+abbrev pub nth : List Note → ℕ → Note
+nth notes i = getD notes i blank
+
+module _ (P S v : ℕ) (on : Bool) where
+  abbrev pub cap : ℕ
+  cap = capacity P
+
+  abbrev pub sizes : Side → Own
+  sizes side = record { side = side; attached = true; power = P; slot = S; notfull = on }
+
+  -- free slots for the sender, waiting notes for the recorder
+  abbrev pub roomIn : Side → Trace → ℕ
+  roomIn Sender t = cap - (length (t .sent) - length (t .got))
+  roomIn Recorder t = length (t .sent) - length (t .got)
+
+  -- the slot of the i-th note holds it
+  pub record HoldsAt (r : List ℕ) (i : ℕ) (n : Note) : Type 0 where
+    pub head : headOf (slotOf r (sizes Sender) (plus 64 v i)) ≡ record { length = length (n .body); tag = n .tag }
+    pub payload : payloadIn (slotOf r (sizes Sender) (plus 64 v i)) (length (n .body)) ≡ n .body
+    pub tag-small : n .tag < 2 ^ 16
+    pub body-fits : length (n .body) ≤ payloadCapacity S
+
+  -- what a side at a store, or behind it, has in hand
+  abbrev pub InHand : Side → Phase → List ℕ → Trace → Type 0
+  InHand Sender resting r t = Unit
+  InHand Sender looking r t = Unit
+  InHand Sender copying r t = Unit
+  InHand Sender (publishing l g) r t = HoldsAt r (length (t .sent)) (t .hand)
+  InHand Sender (telling l g) r t = Unit
+  InHand Sender asking r t = Unit
+  InHand Sender (armed e) r t = Unit
+  InHand Sender (poised e) r t = Unit
+  InHand Sender (waits e) r t = Unit
+  InHand Sender sleeps r t = Unit
+  InHand Sender leaving r t = Unit
+  InHand Recorder resting r t = Unit
+  InHand Recorder looking r t = Unit
+  InHand Recorder copying r t = Unit
+  InHand Recorder (publishing l g) r t = (l ≤ length (t .buffer)) × (nth (t .sent) (length (t .got)) ≡ record { tag = g; body = take l (t .buffer) })
+  InHand Recorder (telling l g) r t =
+      (l ≤ length (t .buffer)) × ((before : List Note) × (t .got ≡ before ++ (record { tag = g; body = take l (t .buffer) } ∷ [])))
+  InHand Recorder asking r t = Unit
+  InHand Recorder (armed e) r t = Unit
+  InHand Recorder (poised e) r t = Unit
+  InHand Recorder (waits e) r t = Unit
+  InHand Recorder sleeps r t = Unit
+  InHand Recorder leaving r t = Unit
+
+  -- a seat: its flags tell whether it is taken and closed; who sits there has the sizes and the counter; an empty one rests
+  pub record Seated (side : Side) (p : Party) (t : Trace) (flags : ℕ) : Type 0 where
+    pub closed-bit : bitOn (worth (closeMark side)) flags ≡ p .closed
+    pub attached-bit : bitOn (worth (attachMark side)) flags ≡ p .own .attached
+    pub in-place : p .own .attached ≡ true → (p .own ≡ sizes side) × (p .counter ≡ plus 64 v (countOf side t))
+    pub empty : p .own .attached ≡ false → (p .step ≡ Rest) × (p .closed ≡ false)
+
+  -- the header's fixed words
+  pub record Fixed (r : List ℕ) : Type 0 where
+    pub long : length r ≡ totalBytes P S
+    pub small : leAt 4 r flagsAt < reservedFrom
+    pub power-at : leAt 1 r powerAt ≡ P
+    pub slot-at : leAt 4 r slotSizeAt ≡ S
+    pub option : bitOn notFullOn (leAt 4 r flagsAt) ≡ on
+
+  -- the notes: counts within the capacity of one another, delivered in order, and the waiting ones in their slots
+  pub record Queue (r : List ℕ) (t : Trace) : Type 0 where
+    pub below : length (t .got) ≤ length (t .sent)
+    pub above : length (t .sent) ≤ length (t .got) + cap
+    pub order : t .got ≡ take (length (t .got)) (t .sent)
+    pub ring : (i : ℕ) → length (t .got) ≤ i → i < length (t .sent) → HoldsAt r i (nth (t .sent) i)
+
+  -- one side of a world
+  pub record Side-good (side : Side) (r : List ℕ) (p : Party) (t : Trace) : Type 0 where
+    pub word : leAt 8 r (counterAt side) ≡ plus 64 v (countOf side t)
+    pub seat : Seated side p t (leAt 4 r flagsAt)
+    pub since : Since (phase (p .step)) (leAt 4 r (bellAt (sleepBell side))) (rungOf side t)
+    pub room : HasRoom (phase (p .step)) (roomIn side t)
+    pub hand : InHand side (phase (p .step)) r t
+    pub tag-small : p .tag < 2 ^ 16
+
+  pub record Real (w : World) : Type 0 where
+    pub fixed : Fixed (w .region)
+    pub queue : Queue (w .region) (w .trace)
+    pub sides : (side : Side) → Side-good side (w .region) (partyIn w side) (w .trace)

@@ -1,0 +1,145 @@
+//! The command: plays, makes, compares, writes and reads scripts.
+
+use std::ffi::{OsStr, OsString};
+use std::fs::File;
+use std::io::{self, BufWriter, ErrorKind, Read, Write};
+use std::process::ExitCode;
+
+use reference::compare::{compare, Verdict};
+use reference::random::Generator;
+use reference::stream::{play, Trouble};
+use reference::{readout, text};
+
+const USAGE: &str = "\
+The queue of document 01, played by its reference.
+
+usage:
+  reference play < SCRIPT > REPORT
+      plays a script of 32-byte records and writes a report record for each
+  reference random SEED COUNT > SCRIPT
+      writes COUNT random records, the same for the same SEED; with an even SEED
+      no close and no shutdown, with an odd one late and rarely
+  reference compare SCRIPT REPORT
+      plays the script; says `same, N records`, or the first record (counted
+      from 1) of the report that differs, and then ends with status 1
+  reference write < TEXT > SCRIPT
+      makes a script of lines:
+          push [try|blocking] TAG [length N] \"TEXT\"     pop [try|blocking] LENGTH
+          turn sender|recorder [fails ERROR]            spurious sender|recorder
+          time-out sender|recorder                      close sender|recorder
+          shutdown sender|recorder                      bytes HH HH ...
+      A text takes \\\" \\\\ and \\xNN; # starts a comment; blank lines are skipped.
+      `bytes` gives any record, with zeros after the given bytes.
+  reference read SCRIPT REPORT
+      writes a line for each record: number, what was asked, the answer, the step
+      the asked party then stands at; what differs from the reference is marked !
+
+Status: 0 well, 1 a difference, a bad line, or a failed read or write, 2 bad arguments.
+";
+
+fn main() -> ExitCode {
+    // A file's name need not be text, so the arguments stay as the system gave them.
+    let arguments: Vec<OsString> = std::env::args_os().skip(1).collect();
+    let Some((command, rest)) = arguments.split_first() else {
+        return usage("an argument is missing");
+    };
+    let command = command.to_string_lossy();
+    let outcome = match (command.as_ref(), rest) {
+        ("play", []) => play_streams(),
+        ("random", [seed, count]) => match (number(seed), number(count)) {
+            (Some(seed), Some(count)) => random(seed, count),
+            _ => return usage("SEED and COUNT are whole numbers from 0 to 2^64 - 1"),
+        },
+        ("compare", [script, report]) => compare_files(script, report),
+        ("write", []) => write(),
+        ("read", [script, report]) => read_files(script, report),
+        ("help" | "--help" | "-h", []) => say(USAGE),
+        ("play" | "random" | "compare" | "write" | "read" | "help" | "--help" | "-h", _) => {
+            return usage(&format!(
+                "these are not the arguments that `{command}` takes"
+            ));
+        }
+        _ => return usage(&format!("`{command}` is unknown")),
+    };
+    outcome.unwrap_or_else(|message| {
+        eprintln!("reference: {message}");
+        ExitCode::FAILURE
+    })
+}
+
+/// What a subcommand ends with: a status, or the message of what went wrong.
+type Outcome = Result<ExitCode, String>;
+
+fn usage(what: &str) -> ExitCode {
+    eprint!("reference: {what}\n\n{USAGE}");
+    ExitCode::from(2)
+}
+
+/// Writes to standard output, where a closed pipe is an error and no panic.
+fn say(words: &str) -> Outcome {
+    give(words.as_bytes(), "write the answer")
+}
+
+fn give(bytes: &[u8], doing: &'static str) -> Outcome {
+    let mut out = io::stdout().lock();
+    out.write_all(bytes)
+        .and_then(|()| out.flush())
+        .map_err(|error| Trouble { doing, error }.to_string())?;
+    Ok(ExitCode::SUCCESS)
+}
+
+fn number(argument: &OsStr) -> Option<u64> {
+    argument.to_str()?.parse().ok()
+}
+
+fn open(path: &OsStr) -> Result<File, String> {
+    File::open(path).map_err(|error| format!("cannot open {}: {error}", path.to_string_lossy()))
+}
+
+fn play_streams() -> Outcome {
+    play(io::stdin().lock(), io::stdout().lock())
+        .map(|()| ExitCode::SUCCESS)
+        .map_err(|trouble| trouble.to_string())
+}
+
+fn random(seed: u64, count: u64) -> Outcome {
+    let mut out = BufWriter::with_capacity(1 << 16, io::stdout().lock());
+    let trouble = |error| format!("cannot write the script: {error}");
+    for record in Generator::new(seed, count) {
+        out.write_all(&record).map_err(trouble)?;
+    }
+    out.flush().map_err(trouble)?;
+    Ok(ExitCode::SUCCESS)
+}
+
+fn compare_files(script: &OsStr, report: &OsStr) -> Outcome {
+    match compare(open(script)?, open(report)?).map_err(|trouble| trouble.to_string())? {
+        Verdict::Same { records } => say(&format!("same, {records} records\n")),
+        Verdict::Differs { line } => {
+            say(&format!("{line}\n"))?;
+            Ok(ExitCode::FAILURE)
+        }
+    }
+}
+
+fn write() -> Outcome {
+    let mut lines = Vec::new();
+    io::stdin()
+        .lock()
+        .read_to_end(&mut lines)
+        .map_err(|error| format!("cannot read the text: {error}"))?;
+    match text::write(&lines) {
+        Ok(script) => give(&script, "write the script"),
+        Err(bad) => Err(format!("line {}: {}", bad.line, bad.message)),
+    }
+}
+
+fn read_files(script: &OsStr, report: &OsStr) -> Outcome {
+    let out = io::stdout().lock();
+    match readout::read(open(script)?, open(report)?, out) {
+        // Whoever reads on a screen may stop before the end.
+        Err(trouble) if trouble.error.kind() == ErrorKind::BrokenPipe => Ok(ExitCode::SUCCESS),
+        Err(trouble) => Err(trouble.to_string()),
+        Ok(()) => Ok(ExitCode::SUCCESS),
+    }
+}
