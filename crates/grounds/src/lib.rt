@@ -1,0 +1,156 @@
+// The grounds on which a turn is refused before it is played, whom a turn wakes, and what a wake makes of a party.
+ghost use mathlib.Core.Path.{_≡_};
+ghost use Rattle.rules.specs.Turn.{errorOf, faultOk, lentTo, lentOk, goes, wokeWith, wokeOf};
+ghost use Rattle.rules.specs.Bench.{sameBell, hears, wakened};
+ghost use Rattle.rules.specs.Take.{stanceOf};
+use types::Access;
+use types::Bell;
+use types::Fault;
+use types::Party;
+use types::Side;
+use types::Stance;
+use types::Step;
+use types::Woke;
+
+// The error as a turn takes it: 0 for none.
+pub fn error_of(fault: Fault) -> u16
+    ensures { λ r. ⌜ r ≡ errorOf fault ⌝ }
+{
+    match fault {
+        Fault::Fine => 0,
+        Fault::Error(error) => error,
+    }
+}
+
+// So none may be announced as 0.
+fn fault_ok(fault: Fault) -> bool
+    ensures { λ r. ⌜ r ≡ faultOk fault ⌝ }
+{
+    match fault {
+        Fault::Fine => true,
+        Fault::Error(error) => 0 < error,
+    }
+}
+
+// Of what a turn is lent, the part that the side's own copy uses.
+fn lent_to(side: Side, payload: usize, buffer: usize) -> usize
+    ensures { λ r. ⌜ r ≡ lentTo side payload buffer ⌝ }
+{
+    match side {
+        Side::Sender => payload,
+        Side::Recorder => buffer,
+    }
+}
+
+// What is lent matters at a copy alone.
+fn lent_ok(stance: Stance, lent: usize, named: usize) -> bool
+    ensures { λ r. ⌜ r ≡ lentOk stance lent named ⌝ }
+{
+    match stance {
+        Stance::Resting => true,
+        Stance::Sleeping => true,
+        Stance::Copying => lent == named,
+        Stance::Publishing => true,
+        Stance::Closing => true,
+        Stance::Moving => true,
+    }
+}
+
+// Whether the copy that a party may be at is lent what its call named.
+fn lent_as_named(side: Side, p: Party, payload: usize, buffer: usize) -> bool
+    ensures { λ r. ⌜ r ≡ lentOk (stanceOf (p .step)) (lentTo side payload buffer) (p .length) ⌝ }
+{
+    let step = p.step;
+    let stance = machine::stance_of(step);
+    let lent = lent_to(side, payload, buffer);
+    lent_ok(stance, lent, p.length as usize)
+}
+
+// 20's grounds at a turn. The lengths are those of the region, the payload and the buffer that the turn is lent.
+pub fn goes(
+    side: Side,
+    p: Party,
+    region: usize,
+    payload: usize,
+    buffer: usize,
+    fault: Fault,
+) -> bool
+    ensures { λ r. ⌜ r ≡ goes side p region payload buffer fault ⌝ }
+{
+    let own = p.own;
+    let good = calls::sound(side, p);
+    let total = sizes::total_bytes(own.power, own.slot);
+    let whole = region as u64 == total;
+    let copy = lent_as_named(side, p, payload, buffer);
+    let fine = fault_ok(fault);
+    let turn = calls::both(copy, fine);
+    let lent = calls::both(whole, turn);
+    calls::both(good, lent)
+}
+
+fn woke_with(failed: bool, bell: Bell) -> Woke
+    ensures { λ r. ⌜ r ≡ wokeWith failed bell ⌝ }
+{
+    if failed {
+        return Woke::Nobody;
+    }
+    Woke::SleeperOn(bell)
+}
+
+// A wake alone wakes, and not where it fails.
+pub fn woke_of(a: Access, error: u16) -> Woke
+    ensures { λ r. ⌜ r ≡ wokeOf a error ⌝ }
+{
+    match a {
+        Access::None => Woke::Nobody,
+        Access::LoadCounter(_) => Woke::Nobody,
+        Access::LoadFlags => Woke::Nobody,
+        Access::LoadBell(_) => Woke::Nobody,
+        Access::WriteSlot(_) => Woke::Nobody,
+        Access::ReadSlot(_) => Woke::Nobody,
+        Access::StoreCounter(_, _) => Woke::Nobody,
+        Access::RaiseBell(_) => Woke::Nobody,
+        Access::SetFlag(_) => Woke::Nobody,
+        Access::WaitBell(_, _) => Woke::Nobody,
+        Access::WakeBell(bell, _) => woke_with(0 < error, bell),
+    }
+}
+
+fn same_bell(a: Bell, b: Bell) -> bool
+    ensures { λ r. ⌜ r ≡ sameBell a b ⌝ }
+{
+    match a {
+        Bell::NotEmpty => match b {
+            Bell::NotEmpty => true,
+            Bell::NotFull => false,
+        },
+        Bell::NotFull => match b {
+            Bell::NotEmpty => false,
+            Bell::NotFull => true,
+        },
+    }
+}
+
+// A side hears a wake on the bell that it sleeps on.
+fn hears(side: Side, w: Woke) -> bool
+    ensures { λ r. ⌜ r ≡ hears side w ⌝ }
+{
+    let place = looks::sleep_bell(side);
+    match w {
+        Woke::Nobody => false,
+        Woke::SleeperOn(bell) => same_bell(bell, place),
+    }
+}
+
+// A wake leads a sleeper to its look, and moves nobody else.
+pub fn wakened(side: Side, p: Party, w: Woke) -> Party
+    ensures { λ r. ⌜ r ≡ wakened side p w ⌝ }
+{
+    let heard = hears(side, w);
+    let asleep = calls::sleeps(p);
+    let up = calls::both(heard, asleep);
+    if up {
+        return calls::at(p, Step::Look);
+    }
+    p
+}

@@ -1,0 +1,100 @@
+-- The whole report of a whole script.
+use mathlib.Core.Bool.{Bool, true, false, _&&_}
+use mathlib.Core.List.{List, [], _++_}
+use Prim.Native.Nat.{ℕ, zero, suc, _/_, _%_}
+use lib.Dec.{eqb}
+use lib.ListN.{length, take, drop, replicate}
+use lib.Seq.{sets}
+use Rattle.types.specs.Pick.{pick}
+use Rattle.types.specs.Answers.{toldOf, number}
+use Rattle.types.specs.declared.Side.the-variants.{Sender, Recorder}
+use Rattle.types.specs.declared.Bench.{Bench}
+use Rattle.types.specs.declared.Played.{Played}
+use Rattle.types.specs.declared.Answer.the-variants.{BadCall, Begun}
+use Rattle.layout.specs.Limits.{totalBytes}
+use Rattle.layout.specs.Create.{created}
+use Rattle.layout.specs.Attach.{attachReply, attachLeaves}
+use Rattle.rules.specs.Bench.{played, playedLeaves, playedBuffer}
+use Rattle.script.specs.declared.Asked.{Asked}
+use Rattle.script.specs.declared.Asked.the-variants.{Plays, Bad}
+use Rattle.script.specs.Records.{recordBytes, payloadBytes, kindIn, payloadIn, askedIn, reportOf, cutReport}
+
+-- what the program keeps between two records: the region, both parties, the running push's payload and the pop's buffer,
+-- 24 bytes each
+pub record Night : Type 0 where
+  pub region : List ℕ
+  pub bench : Bench
+  pub payload : List ℕ
+  pub buffer : List ℕ
+
+-- power 2, slot 32, not-full on, both attached
+abbrev pub power : ℕ
+power = 2
+
+abbrev pub slot : ℕ
+slot = 32
+
+abbrev pub madeRegion : List ℕ
+madeRegion = created (replicate (totalBytes power slot) 0) power slot true 0
+
+abbrev pub senderIn : List ℕ
+senderIn = attachLeaves madeRegion Sender
+
+unfoldable pub start : Night
+start =
+    record {
+      region = attachLeaves senderIn Recorder;
+      bench = record { sender = attachReply madeRegion Sender .party; recorder = attachReply senderIn Recorder .party };
+      payload = replicate payloadBytes 0;
+      buffer = replicate payloadBytes 0;
+    }
+
+-- a turn is lent as much of payload and buffer as the calls named
+abbrev pub lentIn : Night → List ℕ
+lentIn w = take (w .bench .sender .length) (w .payload)
+
+abbrev pub lentOut : Night → List ℕ
+lentOut w = take (w .bench .recorder .length) (w .buffer)
+
+unfoldable pub playedBy : Asked → Night → Played
+playedBy (Plays e) w = played (w .region) (w .bench) (lentIn w) (lentOut w) e
+playedBy Bad w = record { bench = w .bench; answer = BadCall }
+
+unfoldable pub regionBy : Asked → Night → List ℕ
+regionBy (Plays e) w = playedLeaves (w .region) (w .bench) (lentIn w) (lentOut w) e
+regionBy Bad w = w .region
+
+unfoldable pub bufferBy : Asked → Night → List ℕ
+bufferBy (Plays e) w = playedBuffer (w .region) (w .bench) (lentIn w) (lentOut w) e ++ drop (w .bench .recorder .length) (w .buffer)
+bufferBy Bad w = w .buffer
+
+-- a push that was begun keeps its record's payload for its copy turn
+unfoldable pub payloadBy : List ℕ → Night → List ℕ
+payloadBy s w =
+    pick (eqb (kindIn s) 8 && eqb (number (playedBy (askedIn s) w .answer)) 254) (payloadIn s) (w .payload)
+
+-- one record: what it leaves, and what is reported
+unfoldable pub after : Night → List ℕ → Night
+after w s =
+    record {
+      region = regionBy (askedIn s) w;
+      bench = playedBy (askedIn s) w .bench;
+      payload = payloadBy s w;
+      buffer = bufferBy (askedIn s) w;
+    }
+
+unfoldable pub reported : Night → List ℕ → List ℕ
+reported w s = reportOf (kindIn s) (toldOf (playedBy (askedIn s) w .answer)) (bufferBy (askedIn s) w)
+
+-- n records, from the start of a script on
+unfoldable pub nights : ℕ → Night → List ℕ → Night
+nights zero w s = w
+nights (suc n) w s = nights n (after w (take recordBytes s)) (drop recordBytes s)
+
+unfoldable pub reports : ℕ → Night → List ℕ → List ℕ
+reports zero w s = []
+reports (suc n) w s = reported w (take recordBytes s) ++ reports n (after w (take recordBytes s)) (drop recordBytes s)
+
+-- a whole script, the last record cut or not
+unfoldable pub report : List ℕ → List ℕ
+report s = reports (length s / recordBytes) start s ++ pick (eqb (length s % recordBytes) 0) [] cutReport
