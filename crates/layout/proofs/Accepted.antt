@@ -121,11 +121,11 @@ own-small Sender = omega arith
 own-small Recorder = omega arith
 
 module _ (r : List ℕ) (power slot : ℕ) (notfull : Bool) (start : ℕ) (done : createAnswer (length r) power slot ≡ Done 0 0) (small : start < 256 ^ 8) where
-  tests : (slotOk slot ≡ true) × (powerOk power ≡ true) × (eqb (length r) (totalBytes power slot) ≡ true)
+  pub tests : (slotOk slot ≡ true) × (powerOk power ≡ true) × (eqb (length r) (totalBytes power slot) ≡ true)
   unfolding createAnswer
   tests = done-slot (slotOk slot) (powerOk power) (eqb (length r) (totalBytes power slot)) done
 
-  fits : (flags : ℕ) → flags < 256 ^ 4 → Fitting r (ringBytes power slot) power slot flags start
+  pub fits : (flags : ℕ) → flags < 256 ^ 4 → Fitting r (ringBytes power slot) power slot flags start
   unfolding totalBytes
   fits flags h =
       let t = tests in
@@ -150,7 +150,7 @@ module _ (r : List ℕ) (power slot : ℕ) (notfull : Bool) (start : ℕ) (done 
   abbrev pub with-bits : ℕ → List ℕ
   with-bits bits = headed r (ringBytes power slot) power slot (firstFlags notfull + bits) start
 
-  first-small : firstFlags notfull < 256 ^ 4
+  pub first-small : firstFlags notfull < 256 ^ 4
   first-small = omega (arith, flags-small notfull 0 (omega arith))
 
   -- each side is accepted, and sets its own bit ..

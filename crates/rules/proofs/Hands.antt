@@ -42,7 +42,7 @@ has-more asleep k j q h = tt
 has-more leaving k j q h = tt
 
 -- a phase that has nothing in hand
-abbrev free : Phase → Bool
+abbrev pub free : Phase → Bool
 free resting = true
 free looking = true
 free copying = true
@@ -56,7 +56,7 @@ free asleep = true
 free leaving = true
 
 module _ (P S v : ℕ) (on : Bool) where
-  in-hand-none : (side : Side) (ph : Phase) (r : List ℕ) (t : Trace) → T (free ph) → InHand P S v on side ph r t
+  pub in-hand-none : (side : Side) (ph : Phase) (r : List ℕ) (t : Trace) → T (free ph) → InHand P S v on side ph r t
   in-hand-none Sender resting r t h = tt
   in-hand-none Sender looking r t h = tt
   in-hand-none Sender copying r t h = tt

@@ -14,3 +14,7 @@ pub mod Ring
 pub mod Hands
 pub mod Copies
 pub mod Taken
+pub mod RealTurn
+pub mod RealCalls
+pub mod RealAttach
+pub mod RealRun

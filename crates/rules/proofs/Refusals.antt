@@ -31,7 +31,7 @@ use Rattle.rules.proofs.Answered.{given-first}
 use Rattle.rules.proofs.Left.{ends-leaves}
 
 -- the answers that change nothing anywhere
-abbrev refuses : Answer → Bool
+abbrev pub refuses : Answer → Bool
 refuses (Done l t) = false
 refuses InvalidMagic = true
 refuses UnsupportedVersion = true
@@ -83,7 +83,7 @@ unchanged-leaves Nothing a h u = u
 unchanged-leaves Begun a h u = absurd h
 unchanged-leaves GoesOn a h u = absurd h
 
-refusal-number : (x : Answer) → T (refuses x) → eqb (number x) 0 ≡ false
+pub refusal-number : (x : Answer) → T (refuses x) → eqb (number x) 0 ≡ false
 refusal-number (Done l t) h = absurd h
 refusal-number InvalidMagic h = refl
 refusal-number UnsupportedVersion h = refl
@@ -110,15 +110,15 @@ refusal-number Begun h = absurd h
 refusal-number GoesOn h = absurd h
 
 -- a list of checks whose every answer is such
-abbrev all-refuse : List Check → Bool
+abbrev pub all-refuse : List Check → Bool
 all-refuse [] = true
 all-refuse (check b a ∷ cs) = refuses a && all-refuse cs
 
-first-refuses : (a : Bool) (b : Bool) → T (a && b) → T a
+pub first-refuses : (a : Bool) (b : Bool) → T (a && b) → T a
 first-refuses true b t = tt
 first-refuses false b t = t
 
-others-refuse : (a : Bool) (b : Bool) → T (a && b) → T b
+pub others-refuse : (a : Bool) (b : Bool) → T (a && b) → T b
 others-refuse true b t = t
 others-refuse false b t = absurd t
 

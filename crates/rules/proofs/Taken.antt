@@ -1,6 +1,6 @@
 -- A turn of a side over a world: what a refused one leaves, and what a taken one knows and makes.
-use mathlib.Core.Path.{_≡_, refl}
-use mathlib.Core.Bool.{true, false}
+use mathlib.Core.Path.{_≡_, refl, sym, ap, _∙_}
+use mathlib.Core.Bool.{Bool, true, false, _&&_}
 use mathlib.Core.List.{List}
 use Prim.Native.Nat.{ℕ}
 use lib.Dec.{eqb}
@@ -10,15 +10,20 @@ use Rattle.types.specs.declared.Side.{Side}
 use Rattle.types.specs.declared.Side.the-variants.{Sender, Recorder}
 use Rattle.types.specs.declared.Party.{Party}
 use Rattle.types.specs.declared.Fault.{Fault}
+use Rattle.types.specs.declared.Turned.{Turned}
 use Rattle.types.specs.declared.Bench.{Bench}
 use Rattle.types.specs.declared.Woke.the-variants.{Nobody}
 use Rattle.layout.specs.Limits.{powerOk, slotOk, totalBytes}
 use Rattle.rules.specs.Sides.{other, sameSide}
-use Rattle.rules.specs.Take.{stanceOf}
+use Rattle.rules.specs.Take.{stanceOf, stepAfter, moveOf}
+use Rattle.rules.specs.Next.{nextSpec}
 use Rattle.rules.specs.Calls.{sound, lengthOk}
-use Rattle.rules.specs.Turn.{faultOk, lentTo, lentOk, goes, turnSpec, turnLeaves}
+use Rattle.rules.specs.Access.{valueOf, leavesOf, bufferOf}
+use Rattle.rules.specs.Turn.{errorOf, faultOk, lentTo, lentOk, goes, wokeOf, runSpec, runLeaves, runBuffer, turnSpec, turnLeaves}
 use Rattle.rules.specs.Bench.{partyOf, seat, wakened, turned}
-use Rattle.rules.specs.Run.{World, partyIn, takes, turnTraced}
+use Rattle.rules.specs.Run.{World, partyIn, takes, traced, turnTraced}
+use Rattle.rules.proofs.Left.{made, turn-is, leaves-is, party-is}
+use Rattle.rules.proofs.Seats.{moved}
 
 -- what a turn of a side makes of a world
 abbrev pub turnWorld : World → Side → (payload lent : List ℕ) → Fault → World
@@ -81,3 +86,30 @@ module _ (w : World) (side : Side) (payload lent : List ℕ) (fault : Fault) whe
     pub lent-ok : lentOk (stanceOf (p .step)) (lentTo side (length payload) (length lent)) (p .length) ≡ true
     unfolding goes
     lent-ok = and-left _ (faultOk fault) (and-right (eqb (length (w .region)) (totalBytes (p .own .power) (p .own .slot))) _ (and-right (sound side p) _ tests))
+
+    -- the party after it, and the world
+    abbrev value : ℕ
+    value = valueOf (w .region) (p .own) (nextSpec p)
+
+    abbrev woken : Party
+    woken = wakened (other side) (partyIn w (other side)) (wokeOf (nextSpec p) (errorOf fault))
+
+    pub turn-taken : turnWorld w side payload lent fault ≡ record {
+      region = leavesOf (w .region) (p .own) (nextSpec p) (p .tag) payload;
+      bench = seat (seat (w .bench) side (moved p (p .step) (stepAfter (moveOf p value (errorOf fault)) (p .step)))) (other side) woken;
+      trace = traced (nextSpec p) p payload (bufferOf (w .region) (p .own) (nextSpec p) (p .length) lent) (w .trace);
+    }
+    unfolding made runLeaves runBuffer runSpec turned
+    turn-taken = λ i. record { region = a i; bench = b i; trace = c i }
+      where
+        a : turnLeaves side (w .region) p payload lent fault ≡ leavesOf (w .region) (p .own) (nextSpec p) (p .tag) payload
+        a = leaves-is side (w .region) p payload lent fault g
+
+        b : turned (w .bench) side (turnSpec side (w .region) p payload lent fault) .bench
+            ≡ seat (seat (w .bench) side (moved p (p .step) (stepAfter (moveOf p value (errorOf fault)) (p .step)))) (other side) woken
+        b =
+            ap (λ (t : Turned). turned (w .bench) side t .bench) (turn-is side (w .region) p payload lent fault g)
+            ∙ ap (λ (q : Party). seat (seat (w .bench) side q) (other side) woken) (sym (ap (λ (t : Turned). t .party) (turn-is side (w .region) p payload lent fault g)) ∙ party-is side (w .region) p payload lent fault g)
+
+        c : turnTraced w side payload lent fault ≡ traced (nextSpec p) p payload (bufferOf (w .region) (p .own) (nextSpec p) (p .length) lent) (w .trace)
+        c = rw g

@@ -10,3 +10,4 @@ pub mod Bench
 pub mod Given
 pub mod Leaves
 pub mod Run
+pub mod Claims

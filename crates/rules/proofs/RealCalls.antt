@@ -1,0 +1,184 @@
+-- Begins, and what comes to a sleeper, keep the invariant: they change no byte, and lead to a step that relies on nothing.
+use mathlib.Core.Path.{_≡_, refl, sym, ap, _∙_, subst}
+use mathlib.Core.Bool.{Bool, true, false, not, _&&_}
+use mathlib.Core.List.{List}
+use mathlib.Core.Logic.{_⊎_, inl, inr}
+use Prim.Native.Nat.{ℕ, _^_, _<_}
+use native.Mathlib.Omega.{arith}
+use lib.Dec.{T, leb}
+use Rattle.words.proofs.Runs.{and-left}
+use Rattle.types.specs.declared.Side.{Side}
+use Rattle.types.specs.declared.Side.the-variants.{Sender, Recorder}
+use Rattle.types.specs.declared.Own.{Own}
+use Rattle.types.specs.declared.Party.{Party}
+use Rattle.types.specs.declared.Reply.{Reply}
+use Rattle.types.specs.declared.Bench.{Bench}
+use Rattle.types.specs.declared.Step.{Step}
+use Rattle.types.specs.declared.Step.the-variants.{Rest, Look, CloseSet, ShutSet}
+use Rattle.types.specs.declared.Answer.the-variants.{GoesOn, Timeout}
+use Rattle.layout.specs.Limits.{powerOk, slotOk, payloadCapacity}
+use Rattle.rules.specs.Sides.{other}
+use Rattle.rules.specs.Take.{stanceOf}
+use Rattle.rules.specs.Calls.{isSleeping, sound, ready, reply, at, named, begins, rouses, pushSpec, popSpec, closeSpec, shutSpec, spuriousSpec, timeoutSpec}
+use Rattle.rules.specs.Bench.{partyOf, seat}
+use Rattle.rules.specs.Run.{World, partyIn}
+use Rattle.rules.proofs.RealTurn.{both-sides}
+use Rattle.rules.proofs.Hands.{free, in-hand-none}
+use Rattle.rules.proofs.Real.{Phase, resting, looking, leaving, phase, HasRoom, Since, Seated, Side-good, Real}
+
+-- a step that relies on nothing
+pub data Idle : Step → Type 0 where
+  rests : Idle Rest
+  looks : Idle Look
+  closes : Idle CloseSet
+  shuts : {c : Bool} → Idle (ShutSet c)
+
+-- a record that a call left, or changed to begin or to end
+pub record Begun (p q : Party) : Type 0 where
+  pub own : q .own ≡ p .own
+  pub closed : q .closed ≡ p .closed
+  pub counter : q .counter ≡ p .counter
+  pub attached : p .own .attached ≡ true
+  pub tag : (p .tag < 2 ^ 16) → (q .tag < 2 ^ 16)
+  pub idle : Idle (q .step)
+
+abbrev pub Changed : Party → Party → Type 0
+Changed p q = (q ≡ p) ⊎ Begun p q
+
+begins-one : (p : Party) (g c o n : Bool) (q : Party) → (begins p g c o n q .party ≡ p) ⊎ ((begins p g c o n q .party ≡ q) × (g ≡ true))
+begins-one p false c o n q = inl refl
+begins-one p true true o n q = inl refl
+begins-one p true false true n q = inl refl
+begins-one p true false false true q = inl refl
+begins-one p true false false false q = inr (refl, refl)
+
+rouses-one : (p : Party) (g s : Bool) (q : Reply) → (rouses p g s q .party ≡ p) ⊎ ((rouses p g s q .party ≡ q .party) × (g ≡ true))
+rouses-one p false s q = inl refl
+rouses-one p true false q = inl refl
+rouses-one p true true q = inr (refl, refl)
+
+sound-attached : (side : Side) (p : Party) → sound side p ≡ true → p .own .attached ≡ true
+unfolding sound
+sound-attached side p e = and-left (p .own .attached) _ e
+
+ready-attached : (side : Side) (p : Party) → ready side p ≡ true → p .own .attached ≡ true
+unfolding ready
+ready-attached side p e = sound-attached side p (and-left (sound side p) _ e)
+
+changed-by : (p x q : Party) (g : Bool) → (p .own .attached ≡ true → Begun p q) → (g ≡ true → p .own .attached ≡ true) → (x ≡ p) ⊎ ((x ≡ q) × (g ≡ true)) → Changed p x
+changed-by p x q g b h (inl e) = inl e
+changed-by p x q g b h (inr e) = inr (rw (e .0) (b (h (e .1))))
+
+pub push-changes : (p : Party) (b : Bool) (t l : ℕ) → t < 2 ^ 16 → Changed p (pushSpec p b t l .party)
+unfolding pushSpec
+push-changes p b t l h =
+    changed-by p (pushSpec p b t l .party) (named b t l p) (ready Sender p)
+    (λ e. record { own = refl; closed = refl; counter = refl; attached = e; tag = λ k. h; idle = looks })
+    (ready-attached Sender p)
+    (begins-one p (ready Sender p) (p .closed) (b && not (p .own .notfull)) (not (leb l (payloadCapacity (p .own .slot)))) (named b t l p))
+
+pub pop-changes : (p : Party) (b : Bool) (l : ℕ) → Changed p (popSpec p b l .party)
+unfolding popSpec
+pop-changes p b l =
+    changed-by p (popSpec p b l .party) (named b 0 l p) (ready Recorder p)
+    (λ e. record { own = refl; closed = refl; counter = refl; attached = e; tag = λ k. omega arith; idle = looks })
+    (ready-attached Recorder p)
+    (begins-one p (ready Recorder p) (p .closed) false false (named b 0 l p))
+
+pub close-changes : (side : Side) (p : Party) → Changed p (closeSpec side p .party)
+unfolding closeSpec
+close-changes side p =
+    changed-by p (closeSpec side p .party) (at CloseSet p) (ready side p)
+    (λ e. record { own = refl; closed = refl; counter = refl; attached = e; tag = λ k. k; idle = closes })
+    (ready-attached side p)
+    (begins-one p (ready side p) (p .closed) false false (at CloseSet p))
+
+pub shut-changes : (side : Side) (p : Party) → Changed p (shutSpec side p .party)
+unfolding shutSpec
+shut-changes side p =
+    changed-by p (shutSpec side p .party) (at (ShutSet false) p) (ready side p)
+    (λ e. record { own = refl; closed = refl; counter = refl; attached = e; tag = λ k. k; idle = shuts })
+    (ready-attached side p)
+    (begins-one p (ready side p) false false false (at (ShutSet false) p))
+
+pub spurious-changes : (side : Side) (p : Party) → Changed p (spuriousSpec side p .party)
+unfolding spuriousSpec
+spurious-changes side p =
+    changed-by p (spuriousSpec side p .party) (at Look p) (sound side p)
+    (λ e. record { own = refl; closed = refl; counter = refl; attached = e; tag = λ k. k; idle = looks })
+    (sound-attached side p)
+    (rouses-one p (sound side p) (isSleeping (stanceOf (p .step))) (reply (at Look p) GoesOn))
+
+pub timeout-changes : (side : Side) (p : Party) → Changed p (timeoutSpec side p .party)
+unfolding timeoutSpec
+timeout-changes side p =
+    changed-by p (timeoutSpec side p .party) (at Rest p) (sound side p)
+    (λ e. record { own = refl; closed = refl; counter = refl; attached = e; tag = λ k. k; idle = rests })
+    (sound-attached side p)
+    (rouses-one p (sound side p) (isSleeping (stanceOf (p .step))) (reply (at Rest p) Timeout))
+
+seat-same : (side : Side) (b : Bench) → seat b side (partyOf b side) ≡ b
+seat-same Sender b = refl
+seat-same Recorder b = refl
+
+pub seat-one : (side : Side) (b : Bench) (q : Party) → partyOf (seat b side q) side ≡ q
+seat-one Sender b q = refl
+seat-one Recorder b q = refl
+
+pub seat-two : (side : Side) (b : Bench) (q : Party) → partyOf (seat b side q) (other side) ≡ partyOf b (other side)
+seat-two Sender b q = refl
+seat-two Recorder b q = refl
+
+idle-room : (s : Step) (k : ℕ) → Idle s → HasRoom (phase s) k
+idle-room s k rests = tt
+idle-room s k looks = tt
+idle-room s k closes = tt
+idle-room s k shuts = tt
+
+idle-since : (s : Step) (b n : ℕ) → Idle s → Since (phase s) b n
+idle-since s b n rests = tt
+idle-since s b n looks = tt
+idle-since s b n closes = tt
+idle-since s b n shuts = tt
+
+idle-free : (s : Step) → Idle s → T (free (phase s))
+idle-free s rests = tt
+idle-free s looks = tt
+idle-free s closes = tt
+idle-free s shuts = tt
+
+module _ (P S v : ℕ) (on : Bool) where
+  -- a call of a side
+  abbrev pub seated : World → Side → Party → World
+  seated w side q = record { region = w .region; bench = seat (w .bench) side q; trace = w .trace }
+
+  pub real-called : (w : World) → Real P S v on w → (side : Side) (q : Party) → Changed (partyIn w side) q → Real P S v on (seated w side q)
+  real-called w real side q (inl e) = subst (Real P S v on) (sym (ap (seated w side) e ∙ ap (λ (b : Bench). record { region = w .region; bench = b; trace = w .trace }) (seat-same side (w .bench)))) real
+  real-called w real side q (inr b) =
+      record {
+        fixed = real .fixed;
+        queue = real .queue;
+        sides = both-sides side (λ τ. Side-good P S v on τ (w .region) (partyIn (seated w side q) τ) (w .trace))
+            (subst (λ (x : Party). Side-good P S v on side (w .region) x (w .trace)) (sym (seat-one side (w .bench) q)) mine)
+            (subst (λ (x : Party). Side-good P S v on (other side) (w .region) x (w .trace)) (sym (seat-two side (w .bench) q)) (real .sides (other side)));
+      }
+    where
+      mine : Side-good P S v on side (w .region) q (w .trace)
+      mine =
+          let h = real .sides side in
+          record {
+            word = h .word;
+            seat =
+                record {
+                  closed-bit = h .seat .closed-bit ∙ sym (b .closed);
+                  attached-bit = h .seat .attached-bit ∙ sym (ap (λ (o : Own). o .attached) (b .own));
+                  in-place = λ e. (b .own ∙ (h .seat .in-place (b .attached)) .0, b .counter ∙ (h .seat .in-place (b .attached)) .1);
+                  empty = λ e.
+                      let f : q .own .attached ≡ true = ap (λ (o : Own). o .attached) (b .own) ∙ b .attached in
+                      absurd (let z : _≡_ {A = ℕ} 0 1 = cc in omega arith);
+                };
+            since = idle-since (q .step) _ _ (b .idle);
+            room = idle-room (q .step) _ (b .idle);
+            hand = in-hand-none P S v on side (phase (q .step)) (w .region) (w .trace) (idle-free (q .step) (b .idle));
+            tag-small = b .tag (h .tag-small);
+          }

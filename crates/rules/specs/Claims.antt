@@ -1,0 +1,86 @@
+-- What is claimed of every run: demand 3 in document 01's words. The proofs are in proofs/.
+use mathlib.Core.Path.{_≡_}
+use mathlib.Core.Bool.{Bool, true, false}
+use mathlib.Core.List.{List, [], _∷_, _++_}
+use Prim.Native.Nat.{ℕ, _-_, _^_, _<_, _≤_}
+use lib.ListN.{length, take}
+use Rattle.words.specs.Le.{leAt}
+use Rattle.words.specs.Wrap.{minus}
+use Rattle.types.specs.declared.Side.{Side}
+use Rattle.types.specs.declared.Side.the-variants.{Sender, Recorder}
+use Rattle.types.specs.declared.Fault.{Fault}
+use Rattle.types.specs.declared.Fault.the-variants.{Fine, Error}
+use Rattle.types.specs.declared.Step.{Step}
+use Rattle.types.specs.declared.Step.the-variants.{Publish, Check, Wake}
+use Rattle.types.specs.declared.Event.{Event}
+use Rattle.types.specs.declared.Event.the-variants.{Turn, Failing, Spurious, TimeOut, Push, Pop, Close, Shutdown}
+use Rattle.types.specs.declared.Answer.the-variants.{Done}
+use Rattle.layout.specs.Limits.{capacity}
+use Rattle.layout.specs.Header.{counterAt}
+use Rattle.layout.specs.Create.{createAnswer, created}
+use Rattle.rules.specs.Turn.{turnSpec}
+use Rattle.rules.specs.Run.{Note, Trace, World, Happening, attaches, plays, partyIn, takes, carried, happens, run, begin}
+
+-- how many notes wait: head − tail, in the region's bytes
+abbrev pub waiting : World → ℕ
+waiting w = minus 64 (leAt 8 (w .region) (counterAt Sender)) (leAt 8 (w .region) (counterAt Recorder))
+
+-- a side's room: free slots for the sender, waiting notes for the recorder
+abbrev pub room : Side → (capacity : ℕ) → World → ℕ
+room Sender capacity w = capacity - waiting w
+room Recorder capacity w = waiting w
+
+-- a tag is a number of 16 bits; nothing else is asked of what happens
+abbrev pub Typed : Happening → Type 0
+Typed (attaches side) = Unit
+Typed (plays (Turn side) payload lent) = Unit
+Typed (plays (Failing side error) payload lent) = Unit
+Typed (plays (Spurious side) payload lent) = Unit
+Typed (plays (TimeOut side) payload lent) = Unit
+Typed (plays (Push blocking tag length) payload lent) = tag < 2 ^ 16
+Typed (plays (Pop blocking length) payload lent) = Unit
+Typed (plays (Close side) payload lent) = Unit
+Typed (plays (Shutdown side) payload lent) = Unit
+
+abbrev pub AllTyped : List Happening → Type 0
+AllTyped [] = Unit
+AllTyped (h ∷ hs) = Typed h × AllTyped hs
+
+-- a turn of a side, its failure announced or not
+abbrev pub turnOf : Side → Fault → Event
+turnOf side Fine = Turn side
+turnOf side (Error e) = Failing side e
+
+-- a pop that delivers its note in this turn, or has delivered it
+pub data Delivering : Step → Type 0 where
+  publishes : {l t : ℕ} → Delivering (Publish l t)
+  checks : {l t : ℕ} → Delivering (Check l t)
+  wakes : {l t : ℕ} → Delivering (Wake l t)
+
+-- the last note delivered has that length and tag, and the buffer begins with its bytes
+abbrev pub Carries : (length tag : ℕ) → Trace → Type 0
+Carries l t trace =
+    (before : List Note) × ((n : Note) × ((trace .got ≡ before ++ (n ∷ [])) × ((n .tag ≡ t) × ((length (n .body) ≡ l) × (take l (trace .buffer) ≡ n .body)))))
+
+-- the claims, for a ring of any sizes that create accepts, either option, any start value, over any region
+module _ (region : List ℕ) (power slot : ℕ) (notfull : Bool) (start : ℕ) where
+  abbrev pub Fresh : Type 0
+  Fresh = (createAnswer (length region) power slot ≡ Done 0 0) × (start < 2 ^ 64)
+
+  abbrev pub reached : List Happening → World
+  reached hs = run hs (begin (created region power slot notfull start))
+
+  -- T1: the notes delivered are the first ones sent, the rest waits, and never more wait than there are slots
+  abbrev pub InOrder : Type 0
+  InOrder = (hs : List Happening) → AllTyped hs
+      → (waiting (reached hs) ≤ capacity power)
+      × ((rest : List Note) × (reached hs .trace .sent ≡ reached hs .trace .got ++ rest) × (length rest ≡ waiting (reached hs)))
+
+  -- and the Done that ends a pop carries the length and the tag of the note that it delivered, with the buffer still
+  -- beginning with its bytes
+  abbrev pub DoneCarries : Type 0
+  DoneCarries = (hs : List Happening) → AllTyped hs → (payload lent : List ℕ) (fault : Fault) (l t : ℕ)
+      → takes (reached hs) Recorder payload lent fault ≡ true
+      → Delivering (partyIn (reached hs) Recorder .step)
+      → turnSpec Recorder (reached hs .region) (partyIn (reached hs) Recorder) payload lent fault .answer ≡ Done l t
+      → Carries l t (happens (plays (turnOf Recorder fault) payload lent) (reached hs) .trace)
