@@ -1,0 +1,23 @@
+use Rattle.rules.specs.Looks.{fitOf}
+use Rattle.looks.proofs.fit_of.Statement.{statement}
+use Rattle.looks.proofs.fit_of.Tie as tie
+
+returns : tie.Need-returns
+unfolding fitOf
+returns c = simp (c .if1 .taken)
+
+returns-2 : tie.Need-returns-2
+unfolding fitOf
+returns-2 c = simp (c .before .if1 .left, c .if2 .taken)
+
+returns-3 : tie.Need-returns-3
+unfolding fitOf
+returns-3 c = simp (c .before .if1 .left, c .if2 .left)
+
+pub fit-of-spec : {M : Type 1} → statement M
+fit-of-spec =
+    tie.close
+    (tie.spec
+    returns
+    returns-2
+    returns-3)

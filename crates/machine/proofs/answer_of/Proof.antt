@@ -1,0 +1,14 @@
+use borrow.Author.Needs.{needs}
+use Rattle.machine.proofs.answer_of.Statement.{statement}
+use Rattle.machine.proofs.answer_of.Tie as tie
+
+pub answer-of-spec : {M : Type 1} → statement M
+answer-of-spec =
+    tie.close
+    (tie.spec
+    (λ c. search needs)
+    (λ c. search needs)
+    (λ c. search needs)
+    (λ c. search needs)
+    (λ c. search needs)
+    (λ c. rw (c .before .moved .given .1)))

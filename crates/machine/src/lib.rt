@@ -1,0 +1,210 @@
+// One party as a value: `next` names the one shared access of its next turn, and `take` says what becomes of it when the
+// access gave back a value, or was announced to fail. Neither touches the region.
+ghost use mathlib.Core.Path.{_≡_};
+ghost use Rattle.rules.specs.Take.{moveAt, stanceOf, stepAfter, answerOf, counterAfter, closedAfter, takeSpec};
+ghost use Rattle.rules.specs.Next.{slotAccess, nextAt, nextSpec};
+use header::Header;
+use types::Access;
+use types::Answer;
+use types::Bell;
+use types::Mark;
+use types::Move;
+use types::Own;
+use types::Party;
+use types::Reply;
+use types::Side;
+use types::Stance;
+use types::Step;
+
+// How many a wake wakes.
+pub const ONE: u32 = 1;
+
+pub const ALL: u32 = 2_147_483_647;
+
+// Where a turn at the step leads. An error is announced where a futex call fails, and is 0 otherwise.
+pub fn move_at(
+    step: Step,
+    own: Own,
+    counter: u64,
+    blocking: bool,
+    length: u32,
+    value: u64,
+    error: u16,
+) -> Move
+    ensures { λ r. ⌜ r ≡ moveAt step own counter blocking length value error ⌝ }
+{
+    match step {
+        Step::Rest => Move::Still,
+        Step::Look => steps::look_move(own, counter, blocking, value),
+        Step::Copy => steps::copy_move(own, length, value),
+        Step::Publish(len, tag) => steps::publish_move(own, len, tag),
+        Step::Check(len, tag) => steps::check_move(own, counter, value, len, tag),
+        Step::Raise(len, tag) => Move::To(Step::Wake(len, tag)),
+        Step::Wake(len, tag) => steps::wake_move(own, error, len, tag),
+        Step::Gate => steps::gate_move(own, value, Step::Epoch),
+        Step::Epoch => Move::To(Step::Again((value % 0x1_0000_0000) as u32)),
+        Step::Again(epoch) => steps::again_move(own, counter, value, epoch),
+        Step::GateAgain(epoch) => steps::gate_move(own, value, Step::Wait(epoch)),
+        Step::Wait(epoch) => steps::wait_move(own, value, error, epoch),
+        Step::Asleep => Move::Still,
+        Step::CloseSet => steps::close_move(own),
+        Step::CloseRaise => Move::To(Step::CloseWake),
+        Step::CloseWake => steps::wake_move(own, error, 0, 0),
+        Step::ShutSet(corrupt) => Move::To(Step::ShutRaiseNe(corrupt)),
+        Step::ShutRaiseNe(corrupt) => Move::To(Step::ShutWakeNe(corrupt)),
+        Step::ShutWakeNe(corrupt) => Move::To(Step::ShutRaiseNf(corrupt, error)),
+        Step::ShutRaiseNf(corrupt, first) => Move::To(Step::ShutWakeNf(corrupt, first)),
+        Step::ShutWakeNf(corrupt, first) => steps::shut_move(corrupt, first, error),
+    }
+}
+
+pub fn stance_of(step: Step) -> Stance
+    ensures { λ r. ⌜ r ≡ stanceOf step ⌝ }
+{
+    match step {
+        Step::Rest => Stance::Resting,
+        Step::Look => Stance::Moving,
+        Step::Copy => Stance::Copying,
+        Step::Publish(_, _) => Stance::Publishing,
+        Step::Check(_, _) => Stance::Moving,
+        Step::Raise(_, _) => Stance::Moving,
+        Step::Wake(_, _) => Stance::Moving,
+        Step::Gate => Stance::Moving,
+        Step::Epoch => Stance::Moving,
+        Step::Again(_) => Stance::Moving,
+        Step::GateAgain(_) => Stance::Moving,
+        Step::Wait(_) => Stance::Moving,
+        Step::Asleep => Stance::Sleeping,
+        Step::CloseSet => Stance::Closing,
+        Step::CloseRaise => Stance::Moving,
+        Step::CloseWake => Stance::Moving,
+        Step::ShutSet(_) => Stance::Moving,
+        Step::ShutRaiseNe(_) => Stance::Moving,
+        Step::ShutWakeNe(_) => Stance::Moving,
+        Step::ShutRaiseNf(_, _) => Stance::Moving,
+        Step::ShutWakeNf(_, _) => Stance::Moving,
+    }
+}
+
+pub fn step_after(moved: Move, step: Step) -> Step
+    ensures { λ r. ⌜ r ≡ stepAfter moved step ⌝ }
+{
+    match moved {
+        Move::Still => step,
+        Move::To(onward) => onward,
+        Move::End(_) => Step::Rest,
+    }
+}
+
+pub fn answer_of(moved: Move) -> Answer
+    ensures { λ r. ⌜ r ≡ answerOf moved ⌝ }
+{
+    match moved {
+        Move::Still => Answer::Nothing,
+        Move::To(_) => Answer::GoesOn,
+        Move::End(answer) => answer,
+    }
+}
+
+// P3 and C3 advance the own counter, which wraps.
+pub fn counter_after(stance: Stance, counter: u64) -> u64
+    ensures { λ r. ⌜ r ≡ counterAfter stance counter ⌝ }
+{
+    match stance {
+        Stance::Resting => counter,
+        Stance::Sleeping => counter,
+        Stance::Copying => counter,
+        Stance::Publishing => words::next64(counter),
+        Stance::Closing => counter,
+        Stance::Moving => counter,
+    }
+}
+
+// One's own close counts from the turn that sets its bit.
+pub fn closed_after(stance: Stance, closed: bool) -> bool
+    ensures { λ r. ⌜ r ≡ closedAfter stance closed ⌝ }
+{
+    match stance {
+        Stance::Resting => closed,
+        Stance::Sleeping => closed,
+        Stance::Copying => closed,
+        Stance::Publishing => closed,
+        Stance::Closing => true,
+        Stance::Moving => closed,
+    }
+}
+
+pub fn take(p: Party, value: u64, error: u16) -> Reply
+    ensures { λ r. ⌜ r ≡ takeSpec p value error ⌝ }
+{
+    let own = p.own;
+    let step = p.step;
+    let moved = move_at(step, own, p.counter, p.blocking, p.length, value, error);
+    let stance = stance_of(step);
+    let closed = closed_after(stance, p.closed);
+    let counter = counter_after(stance, p.counter);
+    let onward = step_after(moved, step);
+    let answer = answer_of(moved);
+    let party = Party {
+        own,
+        closed,
+        counter,
+        blocking: p.blocking,
+        tag: p.tag,
+        length: p.length,
+        step: onward,
+    };
+    Reply { party, answer }
+}
+
+// A push writes its slot, a pop reads it.
+pub fn slot_access(side: Side, counter: u64) -> Access
+    ensures { λ r. ⌜ r ≡ slotAccess side counter ⌝ }
+{
+    match side {
+        Side::Sender => Access::WriteSlot(counter),
+        Side::Recorder => Access::ReadSlot(counter),
+    }
+}
+
+// P6 and C6 wake one; close, shutdown and corruption wake all.
+pub fn next_at(step: Step, side: Side, counter: u64) -> Access
+    ensures { λ r. ⌜ r ≡ nextAt step side counter ⌝ }
+{
+    let them = looks::other(side);
+    let ring = looks::ring_bell(side);
+    let sleep = looks::sleep_bell(side);
+    let advanced = words::next64(counter);
+    match step {
+        Step::Rest => Access::None,
+        Step::Look => Access::LoadCounter(them),
+        Step::Copy => slot_access(side, counter),
+        Step::Publish(_, _) => Access::StoreCounter(side, advanced),
+        Step::Check(_, _) => Access::LoadCounter(them),
+        Step::Raise(_, _) => Access::RaiseBell(ring),
+        Step::Wake(_, _) => Access::WakeBell(ring, ONE),
+        Step::Gate => Access::LoadFlags,
+        Step::Epoch => Access::LoadBell(sleep),
+        Step::Again(_) => Access::LoadCounter(them),
+        Step::GateAgain(_) => Access::LoadFlags,
+        Step::Wait(epoch) => Access::WaitBell(sleep, epoch),
+        Step::Asleep => Access::None,
+        Step::CloseSet => Access::SetFlag(Header::close_mark(side)),
+        Step::CloseRaise => Access::RaiseBell(ring),
+        Step::CloseWake => Access::WakeBell(ring, ALL),
+        Step::ShutSet(_) => Access::SetFlag(Mark::Shutdown),
+        Step::ShutRaiseNe(_) => Access::RaiseBell(Bell::NotEmpty),
+        Step::ShutWakeNe(_) => Access::WakeBell(Bell::NotEmpty, ALL),
+        Step::ShutRaiseNf(_, _) => Access::RaiseBell(Bell::NotFull),
+        Step::ShutWakeNf(_, _) => Access::WakeBell(Bell::NotFull, ALL),
+    }
+}
+
+pub fn next(p: Party) -> Access
+    ensures { λ r. ⌜ r ≡ nextSpec p ⌝ }
+{
+    let own = p.own;
+    let side = own.side;
+    let step = p.step;
+    next_at(step, side, p.counter)
+}

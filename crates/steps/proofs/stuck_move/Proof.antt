@@ -1,0 +1,14 @@
+use borrow.Author.Needs.{needs}
+use Rattle.steps.proofs.stuck_move.Statement.{statement}
+use Rattle.steps.proofs.stuck_move.Tie as tie
+
+returns : tie.Need-returns
+returns c = rw (c .goes-or-ends .ensures, c .before .stuck-answer .ensures)
+
+pub stuck-move-spec : {M : Type 1} → statement M
+stuck-move-spec =
+    tie.close
+    (tie.spec
+    (λ c κs. search needs)
+    (λ c κs. search needs)
+    returns)

@@ -1,0 +1,208 @@
+// Where a turn leads, a function a step. A party's own copy of sizes and options is `own`.
+ghost use mathlib.Core.Path.{_≡_};
+ghost use Rattle.types.specs.Pick.{pick};
+ghost use Rattle.rules.specs.Steps.{roomMove, stuckMove, lookMove, fitMove, copyWith, copyMove, publishMove, checkMove, unlessFailed, wakeMove, doorMove, gateMove, againMove, napMove, waitMove, closeMove, shutMove};
+use looks::Error;
+use types::Answer;
+use types::Bell;
+use types::Door;
+use types::Fit;
+use types::Move;
+use types::Nap;
+use types::Own;
+use types::Room;
+use types::Side;
+use types::Step;
+
+// Corruption begins a shutdown.
+pub fn room_move(room: Room, stuck: Move) -> Move
+    ensures { λ r. ⌜ r ≡ roomMove room stuck ⌝ }
+{
+    match room {
+        Room::Corrupt => Move::To(Step::ShutSet(true)),
+        Room::Stuck => stuck,
+        Room::Free => Move::To(Step::Copy),
+    }
+}
+
+fn goes_or_ends(goes: bool, onward: Step, answer: Answer) -> Move
+    ensures { λ r. ⌜ r ≡ pick goes (Move.To onward) (Move.End answer) ⌝ }
+{
+    if goes {
+        Move::To(onward)
+    } else {
+        Move::End(answer)
+    }
+}
+
+// Full or empty ends a try form.
+pub fn stuck_move(blocking: bool, side: Side) -> Move
+    ensures { λ r. ⌜ r ≡ stuckMove blocking side ⌝ }
+{
+    let answer = looks::stuck_answer(side);
+    goes_or_ends(blocking, Step::Gate, answer)
+}
+
+// P1 and C1.
+pub fn look_move(own: Own, counter: u64, blocking: bool, their: u64) -> Move
+    ensures { λ r. ⌜ r ≡ lookMove own counter blocking their ⌝ }
+{
+    let side = own.side;
+    let capacity = sizes::capacity(own.power);
+    let room = looks::room_of(side, capacity, counter, their);
+    let stuck = stuck_move(blocking, side);
+    room_move(room, stuck)
+}
+
+// C2: 8, then 15.
+pub fn fit_move(fit: Fit, length: u16, tag: u16) -> Move
+    ensures { λ r. ⌜ r ≡ fitMove fit length tag ⌝ }
+{
+    match fit {
+        Fit::Bad => Move::End(Answer::CorruptSlot),
+        Fit::Small => Move::End(Answer::OutputTooSmall(length)),
+        Fit::Good => Move::To(Step::Publish(length, tag)),
+    }
+}
+
+// A push carries no note on.
+pub fn copy_with(side: Side, read: Move) -> Move
+    ensures { λ r. ⌜ r ≡ copyWith side read ⌝ }
+{
+    match side {
+        Side::Sender => Move::To(Step::Publish(0, 0)),
+        Side::Recorder => read,
+    }
+}
+
+// P2 and C2. The word is the slot's header, where a pop read one.
+pub fn copy_move(own: Own, buffer: u32, word: u64) -> Move
+    ensures { λ r. ⌜ r ≡ copyMove own buffer word ⌝ }
+{
+    let side = own.side;
+    let most = sizes::payload_capacity(own.slot);
+    let length = looks::head_length(word);
+    let tag = looks::head_tag(word);
+    let fit = looks::fit_of(length, most, buffer);
+    let read = fit_move(fit, length, tag);
+    copy_with(side, read)
+}
+
+// P3 and C3.
+pub fn publish_move(own: Own, length: u16, tag: u16) -> Move
+    ensures { λ r. ⌜ r ≡ publishMove own length tag ⌝ }
+{
+    let side = own.side;
+    let rings = looks::rings(side, own.notfull);
+    goes_or_ends(rings, Step::Check(length, tag), Answer::Done(length, tag))
+}
+
+// P4 and C4.
+pub fn check_move(own: Own, counter: u64, their: u64, length: u16, tag: u16) -> Move
+    ensures { λ r. ⌜ r ≡ checkMove own counter their length tag ⌝ }
+{
+    let side = own.side;
+    let capacity = sizes::capacity(own.power);
+    let blocked = looks::was_blocked(side, capacity, counter, their);
+    goes_or_ends(blocked, Step::Raise(length, tag), Answer::Done(length, tag))
+}
+
+// A futex call that failed answers 17.
+pub fn unless_failed(error: u16, operation: u8, answer: Answer) -> Answer
+    ensures { λ r. ⌜ r ≡ unlessFailed error operation answer ⌝ }
+{
+    let fine = error == Error::NONE;
+    if fine {
+        answer
+    } else {
+        Answer::Syscall(operation, error)
+    }
+}
+
+// P6 and C6, and a close's last turn.
+pub fn wake_move(own: Own, error: u16, length: u16, tag: u16) -> Move
+    ensures { λ r. ⌜ r ≡ wakeMove own error length tag ⌝ }
+{
+    let side = own.side;
+    let bell = looks::ring_bell(side);
+    let operation = looks::wake_op(bell);
+    let answer = unless_failed(error, operation, Answer::Done(length, tag));
+    Move::End(answer)
+}
+
+// An open door leads onward.
+pub fn door_move(door: Door, onward: Step) -> Move
+    ensures { λ r. ⌜ r ≡ doorMove door onward ⌝ }
+{
+    match door {
+        Door::Shut => Move::End(Answer::Shutdown),
+        Door::Left => Move::End(Answer::Closed),
+        Door::Open => Move::To(onward),
+    }
+}
+
+// B1, W1, B4 and W4.
+pub fn gate_move(own: Own, flags: u64, onward: Step) -> Move
+    ensures { λ r. ⌜ r ≡ gateMove own flags onward ⌝ }
+{
+    let side = own.side;
+    let door = looks::door_of(side, flags);
+    door_move(door, onward)
+}
+
+// B3 and W3.
+pub fn again_move(own: Own, counter: u64, their: u64, epoch: u32) -> Move
+    ensures { λ r. ⌜ r ≡ againMove own counter their epoch ⌝ }
+{
+    let side = own.side;
+    let capacity = sizes::capacity(own.power);
+    let room = looks::room_of(side, capacity, counter, their);
+    room_move(room, Move::To(Step::GateAgain(epoch)))
+}
+
+pub fn nap_move(nap: Nap, operation: u8, error: u16) -> Move
+    ensures { λ r. ⌜ r ≡ napMove nap operation error ⌝ }
+{
+    match nap {
+        Nap::Sleeps => Move::To(Step::Asleep),
+        Nap::Returns => Move::To(Step::Look),
+        Nap::Late => Move::End(Answer::Timeout),
+        Nap::Fails => Move::End(Answer::Syscall(operation, error)),
+    }
+}
+
+// B5 and W5.
+pub fn wait_move(own: Own, word: u64, error: u16, epoch: u32) -> Move
+    ensures { λ r. ⌜ r ≡ waitMove own word error epoch ⌝ }
+{
+    let side = own.side;
+    let same = word == (epoch as u64);
+    let nap = looks::nap_of(error, same);
+    let bell = looks::sleep_bell(side);
+    let operation = looks::wait_op(bell);
+    nap_move(nap, operation, error)
+}
+
+// A close's first turn.
+pub fn close_move(own: Own) -> Move
+    ensures { λ r. ⌜ r ≡ closeMove own ⌝ }
+{
+    let side = own.side;
+    let rings = looks::rings(side, own.notfull);
+    goes_or_ends(rings, Step::CloseRaise, Answer::Done(0, 0))
+}
+
+// A shutdown's last turn: the first failure of its two wakes. Corruption ignores both and answers 7.
+pub fn shut_move(corrupt: bool, first: u16, error: u16) -> Move
+    ensures { λ r. ⌜ r ≡ shutMove corrupt first error ⌝ }
+{
+    let earlier = looks::wake_op(Bell::NotEmpty);
+    let later = looks::wake_op(Bell::NotFull);
+    let last = unless_failed(error, later, Answer::Done(0, 0));
+    let answer = unless_failed(first, earlier, last);
+    if corrupt {
+        Move::End(Answer::CorruptIndices)
+    } else {
+        Move::End(answer)
+    }
+}
