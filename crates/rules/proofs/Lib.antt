@@ -18,3 +18,9 @@ pub mod RealTurn
 pub mod RealCalls
 pub mod RealAttach
 pub mod RealRun
+pub mod Heard
+pub mod Own
+pub mod Effects
+pub mod Listening
+pub mod Fairly
+pub mod Causes

@@ -7,7 +7,7 @@ use native.Mathlib.Omega.{arith}
 use borrow.Author.Tests.{eqb-true}
 use lib.Dec.{T, eqb}
 use lib.ListN.{length}
-use Rattle.words.specs.Le.{leAt}
+use Rattle.words.specs.Le.{leAt, putLe}
 use Rattle.words.specs.Wrap.{plus}
 use Rattle.types.specs.Pick.{pick}
 use Rattle.types.specs.Answers.{number, Check, check, firstOf}
@@ -80,6 +80,11 @@ module _ (P S v : ℕ) (on : Bool) (power-ok : powerOk P ≡ true) (slot-ok : sl
 
   flags-left : leAt 4 left flagsAt ≡ setBit (worth (attachMark side)) flags
   flags-left = flags-are P S v on r p [] (real .fixed) a
+
+  -- the flags after it, as stored
+  pub attach-flags : leAt 4 (putLe 4 r flagsAt (setBit (worth (attachMark side)) flags)) flagsAt ≡ setBit (worth (attachMark side)) flags
+  unfolding leavesOf
+  attach-flags = flags-left
 
   counters : (τ : Side) → leAt 8 left (counterAt τ) ≡ leAt 8 r (counterAt τ)
   counters τ = counter-after r (p .own) (p .tag) [] (header-in P S v on r p [] (real .fixed)) τ a tt

@@ -14,7 +14,7 @@ use Rattle.types.specs.declared.Party.{Party}
 use Rattle.types.specs.declared.Reply.{Reply}
 use Rattle.types.specs.declared.Bench.{Bench}
 use Rattle.types.specs.declared.Step.{Step}
-use Rattle.types.specs.declared.Step.the-variants.{Rest, Look, CloseSet, ShutSet}
+use Rattle.types.specs.declared.Step.the-variants.{Rest, Look, Asleep, CloseSet, ShutSet}
 use Rattle.types.specs.declared.Answer.the-variants.{GoesOn, Timeout}
 use Rattle.layout.specs.Limits.{powerOk, slotOk, payloadCapacity}
 use Rattle.rules.specs.Sides.{other}
@@ -22,6 +22,8 @@ use Rattle.rules.specs.Take.{stanceOf}
 use Rattle.rules.specs.Calls.{isSleeping, sound, ready, reply, at, named, begins, rouses, pushSpec, popSpec, closeSpec, shutSpec, spuriousSpec, timeoutSpec}
 use Rattle.rules.specs.Bench.{partyOf, seat}
 use Rattle.rules.specs.Run.{World, partyIn}
+use Rattle.rules.proofs.Refusals.{ready-rests}
+use Rattle.rules.proofs.Seats.{sleeping-step}
 use Rattle.rules.proofs.RealTurn.{both-sides}
 use Rattle.rules.proofs.Hands.{free, in-hand-none}
 use Rattle.rules.proofs.Real.{Phase, resting, looking, leaving, phase, HasRoom, Since, Seated, Side-good, Real}
@@ -34,28 +36,31 @@ pub data Idle : Step → Type 0 where
   shuts : {c : Bool} → Idle (ShutSet c)
 
 -- a record that a call left, or changed to begin or to end
-pub record Begun (p q : Party) : Type 0 where
+pub record Begun (side : Side) (p q : Party) : Type 0 where
   pub own : q .own ≡ p .own
   pub closed : q .closed ≡ p .closed
   pub counter : q .counter ≡ p .counter
   pub attached : p .own .attached ≡ true
   pub tag : (p .tag < 2 ^ 16) → (q .tag < 2 ^ 16)
   pub idle : Idle (q .step)
+  pub from : (p .step ≡ Rest) ⊎ (p .step ≡ Asleep)
+  -- a sender that may block is heard
+  pub blocks : side ≡ Sender → (q .blocking ≡ p .blocking) ⊎ (q .blocking ≡ true → p .own .notfull ≡ true)
 
-abbrev pub Changed : Party → Party → Type 0
-Changed p q = (q ≡ p) ⊎ Begun p q
+abbrev pub Changed : Side → Party → Party → Type 0
+Changed side p q = (q ≡ p) ⊎ Begun side p q
 
-begins-one : (p : Party) (g c o n : Bool) (q : Party) → (begins p g c o n q .party ≡ p) ⊎ ((begins p g c o n q .party ≡ q) × (g ≡ true))
+begins-one : (p : Party) (g c o n : Bool) (q : Party) → (begins p g c o n q .party ≡ p) ⊎ ((begins p g c o n q .party ≡ q) × ((g ≡ true) × (o ≡ false)))
 begins-one p false c o n q = inl refl
 begins-one p true true o n q = inl refl
 begins-one p true false true n q = inl refl
 begins-one p true false false true q = inl refl
-begins-one p true false false false q = inr (refl, refl)
+begins-one p true false false false q = inr (refl, (refl, refl))
 
-rouses-one : (p : Party) (g s : Bool) (q : Reply) → (rouses p g s q .party ≡ p) ⊎ ((rouses p g s q .party ≡ q .party) × (g ≡ true))
+rouses-one : (p : Party) (g s : Bool) (q : Reply) → (rouses p g s q .party ≡ p) ⊎ ((rouses p g s q .party ≡ q .party) × ((g ≡ true) × (s ≡ true)))
 rouses-one p false s q = inl refl
 rouses-one p true false q = inl refl
-rouses-one p true true q = inr (refl, refl)
+rouses-one p true true q = inr (refl, (refl, refl))
 
 sound-attached : (side : Side) (p : Party) → sound side p ≡ true → p .own .attached ≡ true
 unfolding sound
@@ -65,59 +70,81 @@ ready-attached : (side : Side) (p : Party) → ready side p ≡ true → p .own 
 unfolding ready
 ready-attached side p e = sound-attached side p (and-left (sound side p) _ e)
 
-changed-by : (p x q : Party) (g : Bool) → (p .own .attached ≡ true → Begun p q) → (g ≡ true → p .own .attached ≡ true) → (x ≡ p) ⊎ ((x ≡ q) × (g ≡ true)) → Changed p x
-changed-by p x q g b h (inl e) = inl e
-changed-by p x q g b h (inr e) = inr (rw (e .0) (b (h (e .1))))
+-- either it stayed, or the tests that let it change held
+changed-by : (side : Side) (p x q : Party) (F : Type 0) → (F → Begun side p q) → (x ≡ p) ⊎ ((x ≡ q) × F) → Changed side p x
+changed-by side p x q F b (inl e) = inl e
+changed-by side p x q F b (inr e) = inr (rw (e .0) (b (e .1)))
 
-pub push-changes : (p : Party) (b : Bool) (t l : ℕ) → t < 2 ^ 16 → Changed p (pushSpec p b t l .party)
+only-heard : (b n : Bool) → (b && not n) ≡ false → b ≡ true → n ≡ true
+only-heard b true e h = refl
+only-heard true false e h = sym e
+only-heard false false e h = h
+
+pub push-changes : (p : Party) (b : Bool) (t l : ℕ) → t < 2 ^ 16 → Changed Sender p (pushSpec p b t l .party)
 unfolding pushSpec
 push-changes p b t l h =
-    changed-by p (pushSpec p b t l .party) (named b t l p) (ready Sender p)
-    (λ e. record { own = refl; closed = refl; counter = refl; attached = e; tag = λ k. h; idle = looks })
-    (ready-attached Sender p)
+    changed-by Sender p (pushSpec p b t l .party) (named b t l p) ((ready Sender p ≡ true) × ((b && not (p .own .notfull)) ≡ false))
+    (λ e. record {
+      own = refl;
+      closed = refl;
+      counter = refl;
+      attached = ready-attached Sender p (e .0);
+      tag = λ k. h;
+      idle = looks;
+      from = inl (ready-rests Sender p (e .0));
+      blocks = λ s. inr (only-heard b (p .own .notfull) (e .1));
+    })
     (begins-one p (ready Sender p) (p .closed) (b && not (p .own .notfull)) (not (leb l (payloadCapacity (p .own .slot)))) (named b t l p))
 
-pub pop-changes : (p : Party) (b : Bool) (l : ℕ) → Changed p (popSpec p b l .party)
+pub pop-changes : (p : Party) (b : Bool) (l : ℕ) → Changed Recorder p (popSpec p b l .party)
 unfolding popSpec
 pop-changes p b l =
-    changed-by p (popSpec p b l .party) (named b 0 l p) (ready Recorder p)
-    (λ e. record { own = refl; closed = refl; counter = refl; attached = e; tag = λ k. omega arith; idle = looks })
-    (ready-attached Recorder p)
+    changed-by Recorder p (popSpec p b l .party) (named b 0 l p) ((ready Recorder p ≡ true) × (_≡_ {A = Bool} false false))
+    (λ e. record {
+      own = refl;
+      closed = refl;
+      counter = refl;
+      attached = ready-attached Recorder p (e .0);
+      tag = λ k. omega arith;
+      idle = looks;
+      from = inl (ready-rests Recorder p (e .0));
+      blocks = λ s. absurd (let z : _≡_ {A = ℕ} 0 1 = cc in omega arith);
+    })
     (begins-one p (ready Recorder p) (p .closed) false false (named b 0 l p))
 
-pub close-changes : (side : Side) (p : Party) → Changed p (closeSpec side p .party)
+-- a begin that names nothing, and a sleeper's end of sleep: the record at another step
+stepped : (side : Side) (p : Party) (s : Step) → Idle s → p .own .attached ≡ true → (p .step ≡ Rest) ⊎ (p .step ≡ Asleep) → Begun side p (at s p)
+stepped side p s i a f = record { own = refl; closed = refl; counter = refl; attached = a; tag = λ k. k; idle = i; from = f; blocks = λ e. inl refl }
+
+pub close-changes : (side : Side) (p : Party) → Changed side p (closeSpec side p .party)
 unfolding closeSpec
 close-changes side p =
-    changed-by p (closeSpec side p .party) (at CloseSet p) (ready side p)
-    (λ e. record { own = refl; closed = refl; counter = refl; attached = e; tag = λ k. k; idle = closes })
-    (ready-attached side p)
+    changed-by side p (closeSpec side p .party) (at CloseSet p) ((ready side p ≡ true) × (_≡_ {A = Bool} false false))
+    (λ e. stepped side p CloseSet closes (ready-attached side p (e .0)) (inl (ready-rests side p (e .0))))
     (begins-one p (ready side p) (p .closed) false false (at CloseSet p))
 
-pub shut-changes : (side : Side) (p : Party) → Changed p (shutSpec side p .party)
+pub shut-changes : (side : Side) (p : Party) → Changed side p (shutSpec side p .party)
 unfolding shutSpec
 shut-changes side p =
-    changed-by p (shutSpec side p .party) (at (ShutSet false) p) (ready side p)
-    (λ e. record { own = refl; closed = refl; counter = refl; attached = e; tag = λ k. k; idle = shuts })
-    (ready-attached side p)
+    changed-by side p (shutSpec side p .party) (at (ShutSet false) p) ((ready side p ≡ true) × (_≡_ {A = Bool} false false))
+    (λ e. stepped side p (ShutSet false) shuts (ready-attached side p (e .0)) (inl (ready-rests side p (e .0))))
     (begins-one p (ready side p) false false false (at (ShutSet false) p))
 
-pub spurious-changes : (side : Side) (p : Party) → Changed p (spuriousSpec side p .party)
+pub spurious-changes : (side : Side) (p : Party) → Changed side p (spuriousSpec side p .party)
 unfolding spuriousSpec
 spurious-changes side p =
-    changed-by p (spuriousSpec side p .party) (at Look p) (sound side p)
-    (λ e. record { own = refl; closed = refl; counter = refl; attached = e; tag = λ k. k; idle = looks })
-    (sound-attached side p)
+    changed-by side p (spuriousSpec side p .party) (at Look p) ((sound side p ≡ true) × (isSleeping (stanceOf (p .step)) ≡ true))
+    (λ e. stepped side p Look looks (sound-attached side p (e .0)) (inr (sleeping-step (p .step) (e .1))))
     (rouses-one p (sound side p) (isSleeping (stanceOf (p .step))) (reply (at Look p) GoesOn))
 
-pub timeout-changes : (side : Side) (p : Party) → Changed p (timeoutSpec side p .party)
+pub timeout-changes : (side : Side) (p : Party) → Changed side p (timeoutSpec side p .party)
 unfolding timeoutSpec
 timeout-changes side p =
-    changed-by p (timeoutSpec side p .party) (at Rest p) (sound side p)
-    (λ e. record { own = refl; closed = refl; counter = refl; attached = e; tag = λ k. k; idle = rests })
-    (sound-attached side p)
+    changed-by side p (timeoutSpec side p .party) (at Rest p) ((sound side p ≡ true) × (isSleeping (stanceOf (p .step)) ≡ true))
+    (λ e. stepped side p Rest rests (sound-attached side p (e .0)) (inr (sleeping-step (p .step) (e .1))))
     (rouses-one p (sound side p) (isSleeping (stanceOf (p .step))) (reply (at Rest p) Timeout))
 
-seat-same : (side : Side) (b : Bench) → seat b side (partyOf b side) ≡ b
+pub seat-same : (side : Side) (b : Bench) → seat b side (partyOf b side) ≡ b
 seat-same Sender b = refl
 seat-same Recorder b = refl
 
@@ -152,7 +179,7 @@ module _ (P S v : ℕ) (on : Bool) where
   abbrev pub seated : World → Side → Party → World
   seated w side q = record { region = w .region; bench = seat (w .bench) side q; trace = w .trace }
 
-  pub real-called : (w : World) → Real P S v on w → (side : Side) (q : Party) → Changed (partyIn w side) q → Real P S v on (seated w side q)
+  pub real-called : (w : World) → Real P S v on w → (side : Side) (q : Party) → Changed side (partyIn w side) q → Real P S v on (seated w side q)
   real-called w real side q (inl e) = subst (Real P S v on) (sym (ap (seated w side) e ∙ ap (λ (b : Bench). record { region = w .region; bench = b; trace = w .trace }) (seat-same side (w .bench)))) real
   real-called w real side q (inr b) =
       record {

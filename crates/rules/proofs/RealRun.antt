@@ -25,7 +25,8 @@ use Rattle.layout.proofs.Accepted.{tests, fits, first-small}
 use Rattle.rules.specs.Calls.{pushSpec, popSpec, closeSpec, shutSpec, spuriousSpec, timeoutSpec}
 use Rattle.rules.specs.Bench.{settled, played, playedLeaves}
 use Rattle.rules.specs.Run.{Note, World, Happening, attaches, plays, partyIn, happens, run, begin}
-use Rattle.rules.specs.Claims.{waiting, Typed, AllTyped, Fresh, reached, InOrder}
+use Rattle.rules.specs.Premises.{Typed, AllTyped}
+use Rattle.rules.specs.Claims.{waiting, Fresh, reached, InOrder}
 use Rattle.rules.proofs.Rooms.{used-is}
 use Rattle.rules.proofs.Hands.{in-hand-none}
 use Rattle.rules.proofs.RealTurn.{real-turned}

@@ -274,7 +274,7 @@ module _ (P S v : ℕ) (on : Bool) (power-ok : powerOk P ≡ true) (slot-ok : sl
     abbrev woken : Party
     woken = wakened (other side) q (wokeOf (nextSpec p) (errorOf fault))
 
-    pub after-turn : World
+    unfoldable pub after-turn : World
     after-turn = record { region = left; bench = seat (seat (w .bench) side (moved p (p .step) next-step)) (other side) woken; trace = told }
 
     pub turn-is-after : turnWorld w side payload lent fault ≡ after-turn

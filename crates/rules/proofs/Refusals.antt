@@ -210,7 +210,7 @@ resting-step (ShutWakeNe c) e = absurd (let z : _≡_ {A = ℕ} 0 1 = cc in omeg
 resting-step (ShutRaiseNf c n) e = absurd (let z : _≡_ {A = ℕ} 0 1 = cc in omega arith)
 resting-step (ShutWakeNf c n) e = absurd (let z : _≡_ {A = ℕ} 0 1 = cc in omega arith)
 
-ready-rests : (side : Side) (p : Party) → ready side p ≡ true → p .step ≡ Rest
+pub ready-rests : (side : Side) (p : Party) → ready side p ≡ true → p .step ≡ Rest
 unfolding ready
 ready-rests side p e = resting-step (p .step) (and-right (sound side p) (isResting (stanceOf (p .step))) e)
 

@@ -54,7 +54,7 @@ pub record Roused (q r : Party) : Type 0 where
   pub blocking : r .blocking ≡ q .blocking
   pub step : (r .step ≡ q .step) ⊎ ((q .step ≡ Asleep) × (r .step ≡ Look))
 
-sleeping-step : (s : Step) → isSleeping (stanceOf s) ≡ true → s ≡ Asleep
+pub sleeping-step : (s : Step) → isSleeping (stanceOf s) ≡ true → s ≡ Asleep
 sleeping-step Rest e = absurd (let z : _≡_ {A = ℕ} 0 1 = cc in omega arith)
 sleeping-step Look e = absurd (let z : _≡_ {A = ℕ} 0 1 = cc in omega arith)
 sleeping-step Copy e = absurd (let z : _≡_ {A = ℕ} 0 1 = cc in omega arith)

@@ -2,7 +2,7 @@
 use mathlib.Core.Path.{_≡_}
 use mathlib.Core.Bool.{Bool, true, false}
 use mathlib.Core.List.{List, [], _∷_, _++_}
-use Prim.Native.Nat.{ℕ, _-_, _^_, _<_, _≤_}
+use Prim.Native.Nat.{ℕ, _+_, _-_, _*_, _^_, _<_, _≤_}
 use lib.ListN.{length, take}
 use Rattle.words.specs.Le.{leAt}
 use Rattle.words.specs.Wrap.{minus}
@@ -11,15 +11,18 @@ use Rattle.types.specs.declared.Side.the-variants.{Sender, Recorder}
 use Rattle.types.specs.declared.Fault.{Fault}
 use Rattle.types.specs.declared.Fault.the-variants.{Fine, Error}
 use Rattle.types.specs.declared.Step.{Step}
-use Rattle.types.specs.declared.Step.the-variants.{Publish, Check, Wake}
+use Rattle.types.specs.declared.Step.the-variants.{Publish, Check, Wake, Asleep}
 use Rattle.types.specs.declared.Event.{Event}
-use Rattle.types.specs.declared.Event.the-variants.{Turn, Failing, Spurious, TimeOut, Push, Pop, Close, Shutdown}
+use Rattle.types.specs.declared.Event.the-variants.{Turn, Failing}
 use Rattle.types.specs.declared.Answer.the-variants.{Done}
 use Rattle.layout.specs.Limits.{capacity}
 use Rattle.layout.specs.Header.{counterAt}
 use Rattle.layout.specs.Create.{createAnswer, created}
+use Rattle.rules.specs.Sides.{other}
 use Rattle.rules.specs.Turn.{turnSpec}
-use Rattle.rules.specs.Run.{Note, Trace, World, Happening, attaches, plays, partyIn, takes, carried, happens, run, begin}
+use Rattle.rules.specs.Run.{Note, Trace, World, Happening, plays, partyIn, takes, happens, run, begin}
+use Rattle.rules.specs.Premises.{AllTyped, AllFair, Still, down, closedBit}
+use Rattle.rules.specs.Stretch.{ticks, Willing, inCall, notesOf}
 
 -- how many notes wait: head − tail, in the region's bytes
 abbrev pub waiting : World → ℕ
@@ -29,22 +32,6 @@ waiting w = minus 64 (leAt 8 (w .region) (counterAt Sender)) (leAt 8 (w .region)
 abbrev pub room : Side → (capacity : ℕ) → World → ℕ
 room Sender capacity w = capacity - waiting w
 room Recorder capacity w = waiting w
-
--- a tag is a number of 16 bits; nothing else is asked of what happens
-abbrev pub Typed : Happening → Type 0
-Typed (attaches side) = Unit
-Typed (plays (Turn side) payload lent) = Unit
-Typed (plays (Failing side error) payload lent) = Unit
-Typed (plays (Spurious side) payload lent) = Unit
-Typed (plays (TimeOut side) payload lent) = Unit
-Typed (plays (Push blocking tag length) payload lent) = tag < 2 ^ 16
-Typed (plays (Pop blocking length) payload lent) = Unit
-Typed (plays (Close side) payload lent) = Unit
-Typed (plays (Shutdown side) payload lent) = Unit
-
-abbrev pub AllTyped : List Happening → Type 0
-AllTyped [] = Unit
-AllTyped (h ∷ hs) = Typed h × AllTyped hs
 
 -- a turn of a side, its failure announced or not
 abbrev pub turnOf : Side → Fault → Event
@@ -84,3 +71,22 @@ module _ (region : List ℕ) (power slot : ℕ) (notfull : Bool) (start : ℕ) w
       → Delivering (partyIn (reached hs) Recorder .step)
       → turnSpec Recorder (reached hs .region) (partyIn (reached hs) Recorder) payload lent fault .answer ≡ Done l t
       → Carries l t (happens (plays (turnOf Recorder fault) payload lent) (reached hs) .trace)
+
+  -- T3: a party asleep while the other is between calls or asleep has no room, nobody has shut down, and the other has not
+  -- closed; so the two are never asleep together
+  abbrev pub WithCause : Side → Type 0
+  WithCause side = (hs : List Happening) → AllTyped hs → AllFair side hs (begin (created region power slot notfull start))
+      → partyIn (reached hs) side .step ≡ Asleep → Still (other side) (reached hs)
+      → (room side (capacity power) (reached hs) ≡ 0) × ((down (reached hs) ≡ false) × (closedBit (other side) (reached hs) ≡ false))
+
+  abbrev pub NotBoth : Type 0
+  NotBoth = (hs : List Happening) → AllTyped hs → ((side : Side) → AllFair side hs (begin (created region power slot notfull start)))
+      → partyIn (reached hs) Sender .step ≡ Asleep → partyIn (reached hs) Recorder .step ≡ Asleep → ⊥
+
+  -- T2: the other between calls or asleep and not moving, a party that asks has done all that it can within 4 times its room,
+  -- and 3, turns of its own
+  abbrev pub Bounded : Side → Type 0
+  Bounded side = (hs ms : List Happening) → AllTyped (hs ++ ms) → AllFair side (hs ++ ms) (begin (created region power slot notfull start))
+      → Still (other side) (reached hs) → inCall (partyIn (reached hs) side .step) ≡ true → Willing side ms (reached hs)
+      → 4 * room side (capacity power) (reached hs) + 3 ≤ ticks ms (reached hs)
+      → (room side (capacity power) (reached (hs ++ ms)) ≡ 0) × (notesOf (other side) (reached (hs ++ ms)) ≡ notesOf (other side) (reached hs))

@@ -10,4 +10,6 @@ pub mod Bench
 pub mod Given
 pub mod Leaves
 pub mod Run
+pub mod Premises
+pub mod Stretch
 pub mod Claims

@@ -1,0 +1,194 @@
+-- What each side relies on holds along every run that is fair to it.
+use mathlib.Core.Path.{_≡_, refl, sym, ap, _∙_, subst}
+use mathlib.Core.Bool.{Bool, true, false, not, _&&_, _||_}
+use mathlib.Core.List.{List, [], _∷_}
+use mathlib.Core.Logic.{_⊎_, inl, inr}
+use Prim.Native.Nat.{ℕ, zero, suc, _+_, _-_, _%_, _^_, _<_, _≤_}
+use native.Mathlib.Omega.{arith}
+use native.Mathlib.Nat.{add-zero}
+use borrow.Author.Tests.{le-ltb, ltb-false}
+use lib.Dec.{ltb}
+use lib.ListN.{length}
+use Rattle.words.specs.Le.{leAt}
+use Rattle.words.specs.Wrap.{plus}
+use Rattle.words.proofs.Wrapped.{plus-differ}
+use Rattle.types.specs.declared.Side.{Side}
+use Rattle.types.specs.declared.Side.the-variants.{Sender, Recorder}
+use Rattle.types.specs.declared.Party.{Party}
+use Rattle.types.specs.declared.Fault.{Fault}
+use Rattle.types.specs.declared.Step.{Step}
+use Rattle.types.specs.declared.Step.the-variants.{Rest, Look, Copy, Publish, Check, Raise, Wake, Gate, Epoch, Again, GateAgain, Wait, Asleep, CloseSet, CloseRaise, CloseWake, ShutSet, ShutRaiseNe, ShutWakeNe, ShutRaiseNf, ShutWakeNf}
+use Rattle.types.specs.declared.Access.{Access}
+use Rattle.layout.specs.Limits.{powerOk, slotOk}
+use Rattle.layout.specs.Header.{flagsAt, bellAt}
+use Rattle.rules.specs.Sides.{other, rings, sleepBell}
+use Rattle.rules.specs.Next.{nextAt, nextSpec}
+use Rattle.rules.specs.Access.{bufferOf}
+use Rattle.rules.specs.Turn.{errorOf, wokeOf}
+use Rattle.rules.specs.Bench.{partyOf, seat, wakened}
+use Rattle.rules.specs.Run.{Trace, World, partyIn, takes, traced}
+use Rattle.rules.proofs.After.{flagsBy}
+use Rattle.rules.proofs.Kept.{flags-are}
+use Rattle.rules.proofs.Seats.{moved, roused, roused-elim}
+use Rattle.rules.proofs.Leads.{stopAt}
+use Rattle.rules.proofs.Taken.{turnWorld, seat-own, seat-other}
+use Rattle.rules.proofs.RealTurn.{own-is, access-is, next-step, leads-here, after-turn, turn-is-after}
+use Rattle.rules.proofs.Heard.{Cause, Duty, none, duty, Owed, Good, risen, rungBy, roomBy, wakesAt, setsNone, theirs}
+use Rattle.rules.proofs.Own.{waitsOn, less, ownRoom, own, Tries, tries}
+use Rattle.rules.proofs.Effects.{rung-other, rung-own, room-own-is, room-other-is, flags-still, waits-still, woken-phase}
+use Rattle.rules.proofs.Real.{Phase, phase, sleeps, rungOf, roomIn, Since, Real}
+
+-- heard: the other rings. The waiter, and then the other
+module _ (P S v : ℕ) (on : Bool) where
+  abbrev pub ReadyAt : (heard : Bool) → (waiter mover : Side) → World → Type 0
+  ReadyAt true σ τ w =
+      Good (phase (partyIn w σ .step)) (rungOf σ (w .trace)) (roomIn P S v on σ (w .trace)) (stopAt σ (leAt 4 (w .region) flagsAt)) (duty τ (partyIn w τ .step))
+  ReadyAt false σ τ w = Tries (partyIn w σ .blocking) (phase (partyIn w σ .step))
+
+-- equal words are equal counts, where fewer than 2^32 raises lie between
+pub unrung : (e b n : ℕ) → n < 2 ^ 32 → b % 2 ^ 32 ≡ plus 32 e n → b ≡ e → n ≡ 0
+unfolding plus
+unrung e b n l h q =
+    let f : plus 32 e n ≡ plus 32 e 0 = sym h ∙ ap (λ (x : ℕ). x % 2 ^ 32) (q ∙ sym (add-zero e)) in
+    plus-differ 32 e n 0 (omega arith) (omega arith) f
+
+own-room-still : (s : Step) (k : ℕ) → waitsOn s ≡ true → ownRoom s k ≡ k
+own-room-still s k h = by s h
+  where
+    by : (s : Step) → waitsOn s ≡ true → ownRoom s k ≡ k
+    by Rest h = refl
+    by Look h = refl
+    by Copy h = refl
+    by (Publish l t) h = absurd (let z : _≡_ {A = ℕ} 0 1 = cc in omega arith)
+    by (Check l t) h = refl
+    by (Raise l t) h = refl
+    by (Wake l t) h = refl
+    by Gate h = refl
+    by Epoch h = refl
+    by (Again e) h = refl
+    by (GateAgain e) h = refl
+    by (Wait e) h = refl
+    by Asleep h = refl
+    by CloseSet h = refl
+    by CloseRaise h = refl
+    by CloseWake h = refl
+    by (ShutSet c) h = refl
+    by (ShutRaiseNe c) h = refl
+    by (ShutWakeNe c) h = refl
+    by (ShutRaiseNf c e) h = refl
+    by (ShutWakeNf c e) h = refl
+
+-- the one step that sleeps, and one that tries does not
+asleep-step : (s : Step) → phase s ≡ sleeps → s ≡ Asleep
+asleep-step Rest e = absurd (let z : _≡_ {A = ℕ} 0 1 = cc in omega arith)
+asleep-step Look e = absurd (let z : _≡_ {A = ℕ} 0 1 = cc in omega arith)
+asleep-step Copy e = absurd (let z : _≡_ {A = ℕ} 0 1 = cc in omega arith)
+asleep-step (Publish l t) e = absurd (let z : _≡_ {A = ℕ} 0 1 = cc in omega arith)
+asleep-step (Check l t) e = absurd (let z : _≡_ {A = ℕ} 0 1 = cc in omega arith)
+asleep-step (Raise l t) e = absurd (let z : _≡_ {A = ℕ} 0 1 = cc in omega arith)
+asleep-step (Wake l t) e = absurd (let z : _≡_ {A = ℕ} 0 1 = cc in omega arith)
+asleep-step Gate e = absurd (let z : _≡_ {A = ℕ} 0 1 = cc in omega arith)
+asleep-step Epoch e = absurd (let z : _≡_ {A = ℕ} 0 1 = cc in omega arith)
+asleep-step (Again n) e = absurd (let z : _≡_ {A = ℕ} 0 1 = cc in omega arith)
+asleep-step (GateAgain n) e = absurd (let z : _≡_ {A = ℕ} 0 1 = cc in omega arith)
+asleep-step (Wait n) e = absurd (let z : _≡_ {A = ℕ} 0 1 = cc in omega arith)
+asleep-step Asleep e = refl
+asleep-step CloseSet e = absurd (let z : _≡_ {A = ℕ} 0 1 = cc in omega arith)
+asleep-step CloseRaise e = absurd (let z : _≡_ {A = ℕ} 0 1 = cc in omega arith)
+asleep-step CloseWake e = absurd (let z : _≡_ {A = ℕ} 0 1 = cc in omega arith)
+asleep-step (ShutSet c) e = absurd (let z : _≡_ {A = ℕ} 0 1 = cc in omega arith)
+asleep-step (ShutRaiseNe c) e = absurd (let z : _≡_ {A = ℕ} 0 1 = cc in omega arith)
+asleep-step (ShutWakeNe c) e = absurd (let z : _≡_ {A = ℕ} 0 1 = cc in omega arith)
+asleep-step (ShutRaiseNf c n) e = absurd (let z : _≡_ {A = ℕ} 0 1 = cc in omega arith)
+asleep-step (ShutWakeNf c n) e = absurd (let z : _≡_ {A = ℕ} 0 1 = cc in omega arith)
+
+pub never : (b : Bool) → Tries b sleeps → ⊥
+never true y = y
+never false y = y
+
+no-error : (ok : Bool) (n : ℕ) → ltb 0 n ≡ ok → n ≡ 0 → not ok ≡ true
+no-error true n e h = absurd (let f : ltb 0 n ≡ false = le-ltb 0 n (omega arith) in let z : _≡_ {A = ℕ} 0 1 = cc in omega arith)
+no-error false n e h = refl
+
+module _ (P S v : ℕ) (on : Bool) (power-ok : powerOk P ≡ true) (slot-ok : slotOk S ≡ true) (w : World) (real : Real P S v on w) (side : Side) (payload lent : List ℕ) (fault : Fault)
+    (g : takes w side payload lent fault ≡ true) where
+  abbrev p : Party
+  p = partyIn w side
+
+  abbrev q : Party
+  q = partyIn w (other side)
+
+  abbrev r : List ℕ
+  r = w .region
+
+  abbrev t : Trace
+  t = w .trace
+
+  abbrev s : Step
+  s = p .step
+
+  abbrev after : World
+  after = after-turn P S v on power-ok slot-ok w real side payload lent fault g
+
+  abbrev next : Step
+  next = next-step P S v on power-ok slot-ok w real side payload lent fault g
+
+  abbrev woken : Party
+  woken = wakened (other side) q (wokeOf (nextSpec p) (errorOf fault))
+
+  abbrev a : Access
+  a = nextAt s side (p .counter)
+
+  abbrev buffer : List ℕ
+  buffer = bufferOf r (p .own) a (p .length) lent
+
+  mover-is : partyIn after side ≡ moved p s next
+  unfolding after-turn
+  mover-is = seat-own side (w .bench) (moved p s next) woken
+
+  waiter-is : partyIn after (other side) ≡ woken
+  unfolding after-turn
+  waiter-is = seat-other side (w .bench) (moved p s next) woken
+
+  flags-left : leAt 4 (after .region) flagsAt ≡ flagsBy a (leAt 4 r flagsAt)
+  unfolding after-turn
+  flags-left = flags-are P S v on r p payload (real .fixed) a
+
+  trace-is : after .trace ≡ traced a p payload buffer t
+  unfolding after-turn
+  trace-is = refl
+
+  -- the other's duty is not changed by a wake
+  duty-kept : duty (other side) (woken .step) ≡ duty (other side) (q .step)
+  duty-kept =
+      roused-elim (roused (other side) q (wokeOf (nextSpec p) (errorOf fault))) (λ u. duty (other side) u ≡ duty (other side) (q .step)) refl (λ e. sym (ap (duty (other side)) e))
+
+  -- a turn of one's own
+  pub ready-own : (h : Bool) → ((e : ℕ) → s ≡ Wait e → rungOf side t < 2 ^ 32) → ReadyAt P S v on h side (other side) w → ReadyAt P S v on h side (other side) after
+  ready-own true prompt y =
+      rw (mover-is, waiter-is, duty-kept)
+      (own _ _ _ _ _ _ s next (leads-here P S v on power-ok slot-ok w real side payload lent fault g) (rungOf side t) (duty (other side) (q .step))
+      (λ e at b. unrung e (leAt 4 r (bellAt (sleepBell side))) (rungOf side t) (prompt e at) (subst (λ (u : Step). Since (phase u) (leAt 4 r (bellAt (sleepBell side))) (rungOf side t)) at (real .sides side .since)) b)
+      (rungOf side (after .trace)) (roomIn P S v on side (after .trace)) (stopAt side (leAt 4 (after .region) flagsAt))
+      (λ u.
+      (ap (rungOf side) trace-is ∙ rung-own p payload buffer t side s u,
+      ap (roomIn P S v on side) trace-is ∙ room-own-is p payload buffer t P S v on r (real .queue) side s (real .sides side .room) ∙ own-room-still s _ u,
+      ap (stopAt side) (flags-left ∙ flags-still side (p .counter) (leAt 4 r flagsAt) s (waits-still s u))))
+      y)
+  ready-own false prompt y =
+      rw mover-is (tries _ _ _ _ _ _ s next (leads-here P S v on power-ok slot-ok w real side payload lent fault g) y)
+
+  -- a turn of the other's: here `side` moves, and the other waits
+  pub ready-other : (h : Bool) → rings side on ≡ h → (wakesAt side s ≡ true → q .step ≡ Asleep → errorOf fault ≡ 0) → ReadyAt P S v on h (other side) side w → ReadyAt P S v on h (other side) side after
+  ready-other true rung lands y =
+      let e : phase (woken .step) ≡ risen (wakesAt side s && not (ltb 0 (errorOf fault))) (phase (q .step)) =
+      ap (λ (x : Access). phase (wakened (other side) q (wokeOf x (errorOf fault)) .step)) (access-is P S v on power-ok slot-ok w real side payload lent fault g) ∙ woken-phase side q (p .counter) (errorOf fault) s in
+      rw (mover-is, waiter-is, trace-is, e, rung-other p payload buffer t side s, room-other-is p payload buffer t P S v on r (real .queue) side s (real .sides side .room))
+      (theirs side _ _ _ _ _ _ s next (leads-here P S v on power-ok slot-ok w real side payload lent fault g) rung (not (ltb 0 (errorOf fault))) (phase (q .step)) (rungOf (other side) t)
+      (stopAt (other side) (leAt 4 r flagsAt)) (stopAt (other side) (leAt 4 (after .region) flagsAt))
+      (λ u. ap (stopAt (other side)) (flags-left ∙ flags-still side (p .counter) (leAt 4 r flagsAt) s u))
+      (λ u z. no-error (ltb 0 (errorOf fault)) (errorOf fault) refl (lands u (asleep-step (q .step) z)))
+      y)
+  ready-other false rung lands y =
+      rw (waiter-is, roused (other side) q (wokeOf (nextSpec p) (errorOf fault)) .blocking)
+      (roused-elim (roused (other side) q (wokeOf (nextSpec p) (errorOf fault))) (λ u. Tries (q .blocking) (phase u)) y (λ e. absurd (never (q .blocking) (subst (λ (u : Step). Tries (q .blocking) (phase u)) e y))))

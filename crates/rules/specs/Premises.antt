@@ -1,0 +1,82 @@
+-- What the claims ask of a run, and what they ask of a world: document 01, part 8.
+use mathlib.Core.Path.{_≡_}
+use mathlib.Core.Bool.{Bool, true}
+use mathlib.Core.List.{List, [], _∷_}
+use mathlib.Core.Logic.{_⊎_}
+use Prim.Native.Nat.{ℕ, _^_, _<_}
+use lib.ListN.{length}
+use Rattle.words.specs.Le.{leAt}
+use Rattle.types.specs.declared.Side.{Side}
+use Rattle.types.specs.declared.Side.the-variants.{Sender, Recorder}
+use Rattle.types.specs.declared.Fault.{Fault}
+use Rattle.types.specs.declared.Fault.the-variants.{Fine, Error}
+use Rattle.types.specs.declared.Step.the-variants.{Rest, Wait, Asleep}
+use Rattle.types.specs.declared.Mark.the-variants.{Shutdown as ShutMark}
+use Rattle.types.specs.declared.Event.the-variants.{Turn, Failing, Spurious, TimeOut, Push, Pop, Close, Shutdown}
+use Rattle.layout.specs.Flags.{worth, bitOn, closeMark}
+use Rattle.layout.specs.Header.{flagsAt}
+use Rattle.rules.specs.Next.{nextSpec}
+use Rattle.rules.specs.Turn.{errorOf, wokeOf}
+use Rattle.rules.specs.Bench.{hears}
+use Rattle.rules.specs.Run.{World, Happening, attaches, plays, partyIn, takes, happens}
+
+-- a tag is a number of 16 bits; nothing else is asked of what happens
+abbrev pub Typed : Happening → Type 0
+Typed (attaches side) = Unit
+Typed (plays (Turn side) payload lent) = Unit
+Typed (plays (Failing side error) payload lent) = Unit
+Typed (plays (Spurious side) payload lent) = Unit
+Typed (plays (TimeOut side) payload lent) = Unit
+Typed (plays (Push blocking tag length) payload lent) = tag < 2 ^ 16
+Typed (plays (Pop blocking length) payload lent) = Unit
+Typed (plays (Close side) payload lent) = Unit
+Typed (plays (Shutdown side) payload lent) = Unit
+
+abbrev pub AllTyped : List Happening → Type 0
+AllTyped [] = Unit
+AllTyped (h ∷ hs) = Typed h × AllTyped hs
+
+-- The premises, for a side that waits. Its bell is raised fewer than 2^32 times between its look at it and its wait ..
+abbrev pub rung : Side → World → ℕ
+rung Sender w = w .trace .rungSender
+rung Recorder w = w .trace .rungRecorder
+
+abbrev pub Prompt : Side → World → Type 0
+Prompt side w = (e : ℕ) → partyIn w side .step ≡ Wait e → rung side w < 2 ^ 32
+
+-- .. and no wake call of the other's fails that would have woken it
+abbrev pub Lands : (waiter mover : Side) → Fault → World → Type 0
+Lands waiter mover fault w = hears waiter (wokeOf (nextSpec (partyIn w mover)) 0) ≡ true → partyIn w waiter .step ≡ Asleep → errorOf fault ≡ 0
+
+abbrev pub FairTurn : (waiter mover : Side) → Fault → World → Type 0
+FairTurn Sender Sender fault w = Prompt Sender w
+FairTurn Sender Recorder fault w = Lands Sender Recorder fault w
+FairTurn Recorder Sender fault w = Lands Recorder Sender fault w
+FairTurn Recorder Recorder fault w = Prompt Recorder w
+
+-- only a turn that is taken is asked anything
+abbrev pub Fair : (waiter : Side) → Happening → World → Type 0
+Fair side (attaches mover) w = Unit
+Fair side (plays (Turn mover) payload lent) w = takes w mover payload lent Fine ≡ true → FairTurn side mover Fine w
+Fair side (plays (Failing mover error) payload lent) w = takes w mover payload lent (Error error) ≡ true → FairTurn side mover (Error error) w
+Fair side (plays (Spurious mover) payload lent) w = Unit
+Fair side (plays (TimeOut mover) payload lent) w = Unit
+Fair side (plays (Push blocking tag length) payload lent) w = Unit
+Fair side (plays (Pop blocking length) payload lent) w = Unit
+Fair side (plays (Close mover) payload lent) w = Unit
+Fair side (plays (Shutdown mover) payload lent) w = Unit
+
+abbrev pub AllFair : (waiter : Side) → List Happening → World → Type 0
+AllFair side [] w = Unit
+AllFair side (h ∷ hs) w = Fair side h w × AllFair side hs (happens h w)
+
+-- a party between calls or asleep
+abbrev pub Still : Side → World → Type 0
+Still side w = (partyIn w side .step ≡ Rest) ⊎ (partyIn w side .step ≡ Asleep)
+
+-- shut down, and closed, in the region's flags
+abbrev pub down : World → Bool
+down w = bitOn (worth ShutMark) (leAt 4 (w .region) flagsAt)
+
+abbrev pub closedBit : Side → World → Bool
+closedBit side w = bitOn (worth (closeMark side)) (leAt 4 (w .region) flagsAt)

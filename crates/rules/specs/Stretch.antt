@@ -1,0 +1,98 @@
+-- A stretch of one party's own doings: its turns counted, its will, and what it has published.
+use mathlib.Core.Path.{_≡_}
+use mathlib.Core.Bool.{Bool, true, false, _&&_}
+use mathlib.Core.List.{List, [], _∷_, _++_}
+use Prim.Native.Nat.{ℕ, _+_, _≤_}
+use lib.ListN.{length}
+use Rattle.types.specs.Pick.{pick}
+use Rattle.types.specs.declared.Side.{Side}
+use Rattle.types.specs.declared.Side.the-variants.{Sender, Recorder}
+use Rattle.types.specs.declared.Fault.{Fault}
+use Rattle.types.specs.declared.Fault.the-variants.{Fine, Error}
+use Rattle.types.specs.declared.Step.{Step}
+use Rattle.types.specs.declared.Step.the-variants.{Rest, Look, Copy, Publish, Check, Raise, Wake, Gate, Epoch, Again, GateAgain, Wait, Asleep, CloseSet, CloseRaise, CloseWake, ShutSet, ShutRaiseNe, ShutWakeNe, ShutRaiseNf, ShutWakeNf}
+use Rattle.types.specs.declared.Stance.{Stance}
+use Rattle.types.specs.declared.Stance.the-variants.{Resting, Sleeping, Copying, Publishing, Closing, Moving}
+use Rattle.types.specs.declared.Event.the-variants.{Turn, Failing, Spurious, TimeOut, Push, Pop, Close, Shutdown}
+use Rattle.rules.specs.Sides.{other}
+use Rattle.rules.specs.Take.{stanceOf}
+use Rattle.rules.specs.Run.{Note, World, Happening, attaches, plays, partyIn, takes, happens}
+
+-- A stretch of one party's own doings. A turn counts where it answers neither 20 nor 253; a begin is no turn
+abbrev pub moves : Stance → Bool
+moves Resting = false
+moves Sleeping = false
+moves Copying = true
+moves Publishing = true
+moves Closing = true
+moves Moving = true
+
+abbrev pub counts : World → Side → (payload lent : List ℕ) → Fault → ℕ
+counts w side payload lent fault = pick (takes w side payload lent fault && moves (stanceOf (partyIn w side .step))) 1 0
+
+abbrev pub tick : Happening → World → ℕ
+tick (attaches other) w = 0
+tick (plays (Turn mover) payload lent) w = counts w mover payload lent Fine
+tick (plays (Failing mover error) payload lent) w = counts w mover payload lent (Error error)
+tick (plays (Spurious mover) payload lent) w = 0
+tick (plays (TimeOut mover) payload lent) w = 0
+tick (plays (Push blocking tag length) payload lent) w = 0
+tick (plays (Pop blocking length) payload lent) w = 0
+tick (plays (Close mover) payload lent) w = 0
+tick (plays (Shutdown mover) payload lent) w = 0
+
+abbrev pub ticks : List Happening → World → ℕ
+ticks [] w = 0
+ticks (h ∷ hs) w = tick h w + ticks hs (happens h w)
+
+-- big enough: a pop's copy is named a buffer at least as long as the note that it comes to
+abbrev pub Big : Side → World → Type 0
+Big Sender w = Unit
+Big Recorder w =
+    partyIn w Recorder .step ≡ Copy → (n : Note) (rest : List Note) → w .trace .sent ≡ w .trace .got ++ (n ∷ rest) → length (n .body) ≤ partyIn w Recorder .length
+
+-- the party neither closes nor shuts down, and each pop's buffer is big enough; it may try or block, its waits may fail, and
+-- what answers 20 or 253 may fall in between
+abbrev pub Wills : Side → Happening → World → Type 0
+Wills side (attaches other) w = ⊥
+Wills side (plays (Turn mover) payload lent) w = (mover ≡ side) × Big side w
+Wills side (plays (Failing mover error) payload lent) w = (mover ≡ side) × Big side w
+Wills side (plays (Spurious mover) payload lent) w = mover ≡ side
+Wills side (plays (TimeOut mover) payload lent) w = mover ≡ side
+Wills side (plays (Push blocking tag length) payload lent) w = side ≡ Sender
+Wills side (plays (Pop blocking length) payload lent) w = side ≡ Recorder
+Wills side (plays (Close mover) payload lent) w = ⊥
+Wills side (plays (Shutdown mover) payload lent) w = ⊥
+
+abbrev pub Willing : Side → List Happening → World → Type 0
+Willing side [] w = Unit
+Willing side (h ∷ hs) w = Wills side h w × Willing side hs (happens h w)
+
+-- a party in a push or a pop, or between calls
+abbrev pub inCall : Step → Bool
+inCall Rest = true
+inCall Look = true
+inCall Copy = true
+inCall (Publish l t) = true
+inCall (Check l t) = true
+inCall (Raise l t) = true
+inCall (Wake l t) = true
+inCall Gate = true
+inCall Epoch = true
+inCall (Again e) = true
+inCall (GateAgain e) = true
+inCall (Wait e) = true
+inCall Asleep = true
+inCall CloseSet = false
+inCall CloseRaise = false
+inCall CloseWake = false
+inCall (ShutSet c) = false
+inCall (ShutRaiseNe c) = false
+inCall (ShutWakeNe c) = false
+inCall (ShutRaiseNf c e) = false
+inCall (ShutWakeNf c e) = false
+
+-- the notes that a side has published
+abbrev pub notesOf : Side → World → List Note
+notesOf Sender w = w .trace .sent
+notesOf Recorder w = w .trace .got
