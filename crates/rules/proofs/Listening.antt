@@ -170,10 +170,11 @@ module _ (P S v : ℕ) (on : Bool) (power-ok : powerOk P ≡ true) (slot-ok : sl
       (own _ _ _ _ _ _ s next (leads-here P S v on power-ok slot-ok w real side payload lent fault g) (rungOf side t) (duty (other side) (q .step))
       (λ e at b. unrung e (leAt 4 r (bellAt (sleepBell side))) (rungOf side t) (prompt e at) (subst (λ (u : Step). Since (phase u) (leAt 4 r (bellAt (sleepBell side))) (rungOf side t)) at (real .sides side .since)) b)
       (rungOf side (after .trace)) (roomIn P S v on side (after .trace)) (stopAt side (leAt 4 (after .region) flagsAt))
-      (λ u.
-      (ap (rungOf side) trace-is ∙ rung-own p payload buffer t side s u,
-      ap (roomIn P S v on side) trace-is ∙ room-own-is p payload buffer t P S v on r (real .queue) side s (real .sides side .room) ∙ own-room-still s _ u,
-      ap (stopAt side) (flags-left ∙ flags-still side (p .counter) (leAt 4 r flagsAt) s (waits-still s u))))
+      (λ u. (
+        ap (rungOf side) trace-is ∙ rung-own p payload buffer t side s u,
+        ap (roomIn P S v on side) trace-is ∙ room-own-is p payload buffer t P S v on r (real .queue) side s (real .sides side .room) ∙ own-room-still s _ u,
+        ap (stopAt side) (flags-left ∙ flags-still side (p .counter) (leAt 4 r flagsAt) s (waits-still s u)),
+      ))
       y)
   ready-own false prompt y =
       rw mover-is (tries _ _ _ _ _ _ s next (leads-here P S v on power-ok slot-ok w real side payload lent fault g) y)
