@@ -1,11 +1,10 @@
 -- T3: nobody sleeps without cause, so never both.
-use mathlib.Core.Path.{_≡_, refl, sym, ap, _∙_}
-use mathlib.Core.Bool.{Bool, true, false}
+use mathlib.Core.Path.{_≡_, ap, _∙_}
+use mathlib.Core.Bool.{Bool}
 use mathlib.Core.List.{List}
-use mathlib.Core.Logic.{inl, inr}
+use mathlib.Core.Logic.{inr}
 use Prim.Native.Nat.{ℕ, _-_}
 use native.Mathlib.Omega.{arith}
-use lib.ListN.{length}
 use Rattle.words.specs.Le.{leAt}
 use Rattle.types.specs.declared.Side.{Side}
 use Rattle.types.specs.declared.Side.the-variants.{Sender, Recorder}
@@ -14,13 +13,13 @@ use Rattle.layout.specs.Header.{flagsAt}
 use Rattle.layout.specs.Create.{created}
 use Rattle.layout.proofs.SizeLaws.{capacity-least}
 use Rattle.rules.specs.Sides.{other, rings}
-use Rattle.rules.specs.Run.{World, Happening, partyIn, begin}
+use Rattle.rules.specs.Run.{Happening, partyIn, begin}
 use Rattle.rules.specs.Premises.{AllTyped, AllFair}
-use Rattle.rules.specs.Claims.{waiting, room, Fresh, reached, WithCause, NotBoth}
-use Rattle.rules.proofs.RealRun.{power-fits, slot-fits, real-start, real-reached, waiting-is}
-use Rattle.rules.proofs.Fairly.{Ready, ready-run, ready-start, causeless, no-stop, dozes}
+use Rattle.rules.specs.Claims.{room, Fresh, reached, WithCause, NotBoth}
+use Rattle.rules.proofs.RealRun.{power-fits, slot-fits, real-start, waiting-is}
+use Rattle.rules.proofs.Fairly.{Ready, ready-run, ready-start, still-duty, causeless, no-stop, dozes}
 use Rattle.rules.proofs.Leads.{stopAt}
-use Rattle.rules.proofs.Real.{roomIn, Real}
+use Rattle.rules.proofs.Real.{roomIn}
 
 module _ (r : List ℕ) (P S : ℕ) (on : Bool) (v : ℕ) (fresh : Fresh r P S on v) where
   -- the room in the bytes is the room in the counts
@@ -35,7 +34,7 @@ module _ (r : List ℕ) (P S : ℕ) (on : Bool) (v : ℕ) (fresh : Fresh r P S o
   pub with-cause : (side : Side) → WithCause r P S on v side
   with-cause side hs y f asleep still =
       let w = reached r P S on v hs in
-      let c = causeless (roomIn P S v on side (w .trace)) (stopAt side (leAt 4 (w .region) flagsAt)) (dozes P S v on (rings (other side) on) side (other side) w still asleep (ready-reached side hs y f)) in
+      let c = causeless (roomIn P S v on side (w .trace)) (stopAt side (leAt 4 (w .region) flagsAt)) (dozes P S v on (rings (other side) on) side (other side) w (still-duty (other side) (partyIn w (other side) .step) still) asleep (ready-reached side hs y f)) in
       (room-is side hs y ∙ c .0, no-stop _ _ (c .1))
 
   pub not-both : NotBoth r P S on v

@@ -6,7 +6,6 @@ use mathlib.Core.Logic.{_⊎_, inl, inr, ⊎-elim}
 use Prim.Native.Nat.{ℕ, zero, suc, _-_, _^_, _<_}
 use native.Mathlib.Omega.{arith}
 use lib.Dec.{eqb}
-use lib.ListN.{length}
 use Rattle.words.specs.Le.{leAt, putLe}
 use Rattle.types.specs.Answers.{number}
 use Rattle.types.specs.declared.Side.{Side}
@@ -20,31 +19,30 @@ use Rattle.types.specs.declared.Fault.the-variants.{Fine, Error}
 use Rattle.types.specs.declared.Event.the-variants.{Turn, Failing, Spurious, TimeOut, Push, Pop, Close, Shutdown}
 use Rattle.types.specs.declared.Access.{Access}
 use Rattle.types.specs.declared.Step.{Step}
-use Rattle.types.specs.declared.Step.the-variants.{Rest, Look, Wait, Asleep}
-use Rattle.layout.specs.Limits.{powerOk, slotOk, capacity}
-use Rattle.layout.specs.Flags.{worth, bitOn, setBit, attachMark, closeMark}
+use Rattle.types.specs.declared.Step.the-variants.{Rest, Wait, Asleep}
+use Rattle.layout.specs.Limits.{powerOk, slotOk}
+use Rattle.layout.specs.Flags.{worth, setBit, attachMark, closeMark}
 use Rattle.layout.specs.Header.{flagsAt}
-use Rattle.layout.specs.Create.{created}
 use Rattle.layout.specs.Attach.{attachAnswer, attachReply, attachLeaves, attached}
 use Rattle.layout.proofs.FlagLaws.{mark-set}
 use Rattle.rules.specs.Sides.{other, rings}
 use Rattle.rules.specs.Calls.{pushSpec, popSpec, closeSpec, shutSpec, spuriousSpec, timeoutSpec}
 use Rattle.rules.specs.Next.{nextSpec}
 use Rattle.rules.specs.Turn.{errorOf, wokeOf}
-use Rattle.rules.specs.Bench.{partyOf, seat, hears, settled, played, playedLeaves}
+use Rattle.rules.specs.Bench.{seat, hears, settled, played, playedLeaves}
 use Rattle.rules.specs.Run.{World, Happening, attaches, plays, partyIn, takes, happens, run, begin}
-use Rattle.rules.specs.Premises.{Typed, AllTyped, Fair, AllFair, FairTurn, Still}
+use Rattle.rules.specs.Premises.{Typed, AllTyped, Fair, AllFair, FairTurn}
 use Rattle.rules.proofs.Leads.{stopAt}
 use Rattle.rules.proofs.Taken.{turnWorld, turn-refused}
-use Rattle.rules.proofs.RealTurn.{access-is, after-turn, turn-is-after}
+use Rattle.rules.proofs.RealTurn.{access-is, turn-is-after}
 use Rattle.rules.proofs.RealAttach.{bit-clear, attach-flags, attachWorld}
 use Rattle.rules.proofs.Effects.{heard-by}
-use Rattle.rules.proofs.RealCalls.{Idle, rests, looks, closes, shuts, Begun, Changed, seat-same, seat-one, seat-two, seated, push-changes, pop-changes, close-changes, shut-changes, spurious-changes, timeout-changes}
+use Rattle.rules.proofs.RealCalls.{Idle, rests, looks, closes, shuts, Changed, seat-same, seat-one, seat-two, seated, push-changes, pop-changes, close-changes, shut-changes, spurious-changes, timeout-changes}
 use Rattle.rules.proofs.RealRun.{real-happens}
-use Rattle.rules.proofs.Heard.{Cause, Duty, none, duty, Owed, Good, wakesAt}
+use Rattle.rules.proofs.Heard.{Cause, Duty, none, duty, Good, wakesAt}
 use Rattle.rules.proofs.Own.{Tries}
 use Rattle.rules.proofs.Listening.{ReadyAt, ready-own, ready-other, never}
-use Rattle.rules.proofs.Real.{phase, sleeps, resting, rungOf, roomIn, sizes, Real}
+use Rattle.rules.proofs.Real.{phase, rungOf, roomIn, Real}
 
 -- a step that relies on nothing owes nothing
 idle-good : (s : Step) (n k : ℕ) (z : Bool) (d : Duty) → Idle s → Good (phase s) n k z d
@@ -228,8 +226,8 @@ pub no-stop : (a b : Bool) → (a || b) ≡ false → (a ≡ false) × (b ≡ fa
 no-stop true b e = absurd (let z : _≡_ {A = ℕ} 0 1 = cc in omega arith)
 no-stop false b e = (refl, e)
 
--- with the other between calls or asleep, nobody sleeps with cause
-pub dozes : (P S v : ℕ) (on h : Bool) (σ τ : Side) (w : World) → (partyIn w τ .step ≡ Rest) ⊎ (partyIn w τ .step ≡ Asleep) → partyIn w σ .step ≡ Asleep → ReadyAt P S v on h σ τ w
+-- with the other owing nothing, nobody sleeps with cause
+pub dozes : (P S v : ℕ) (on h : Bool) (σ τ : Side) (w : World) → duty τ (partyIn w τ .step) ≡ none → partyIn w σ .step ≡ Asleep → ReadyAt P S v on h σ τ w
     → Cause (roomIn P S v on σ (w .trace)) (stopAt σ (leAt 4 (w .region) flagsAt)) → ⊥
-dozes P S v on true σ τ w s e y = rw (e, still-duty τ (partyIn w τ .step) s) at y
+dozes P S v on true σ τ w s e y = rw (e, s) at y
 dozes P S v on false σ τ w s e y = λ c. never (partyIn w σ .blocking) (rw e at y)

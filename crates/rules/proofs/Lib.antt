@@ -24,3 +24,6 @@ pub mod Effects
 pub mod Listening
 pub mod Fairly
 pub mod Causes
+pub mod Fits
+pub mod Bound
+pub mod Asks

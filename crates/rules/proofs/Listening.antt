@@ -142,24 +142,24 @@ module _ (P S v : ℕ) (on : Bool) (power-ok : powerOk P ≡ true) (slot-ok : sl
   abbrev buffer : List ℕ
   buffer = bufferOf r (p .own) a (p .length) lent
 
-  mover-is : partyIn after side ≡ moved p s next
+  pub mover-is : partyIn after side ≡ moved p s next
   unfolding after-turn
   mover-is = seat-own side (w .bench) (moved p s next) woken
 
-  waiter-is : partyIn after (other side) ≡ woken
+  pub waiter-is : partyIn after (other side) ≡ woken
   unfolding after-turn
   waiter-is = seat-other side (w .bench) (moved p s next) woken
 
-  flags-left : leAt 4 (after .region) flagsAt ≡ flagsBy a (leAt 4 r flagsAt)
+  pub flags-left : leAt 4 (after .region) flagsAt ≡ flagsBy a (leAt 4 r flagsAt)
   unfolding after-turn
   flags-left = flags-are P S v on r p payload (real .fixed) a
 
-  trace-is : after .trace ≡ traced a p payload buffer t
+  pub trace-is : after .trace ≡ traced a p payload buffer t
   unfolding after-turn
   trace-is = refl
 
   -- the other's duty is not changed by a wake
-  duty-kept : duty (other side) (woken .step) ≡ duty (other side) (q .step)
+  pub duty-kept : duty (other side) (woken .step) ≡ duty (other side) (q .step)
   duty-kept =
       roused-elim (roused (other side) q (wokeOf (nextSpec p) (errorOf fault))) (λ u. duty (other side) u ≡ duty (other side) (q .step)) refl (λ e. sym (ap (duty (other side)) e))
 

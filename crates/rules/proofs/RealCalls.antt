@@ -50,14 +50,14 @@ pub record Begun (side : Side) (p q : Party) : Type 0 where
 abbrev pub Changed : Side → Party → Party → Type 0
 Changed side p q = (q ≡ p) ⊎ Begun side p q
 
-begins-one : (p : Party) (g c o n : Bool) (q : Party) → (begins p g c o n q .party ≡ p) ⊎ ((begins p g c o n q .party ≡ q) × ((g ≡ true) × (o ≡ false)))
+pub begins-one : (p : Party) (g c o n : Bool) (q : Party) → (begins p g c o n q .party ≡ p) ⊎ ((begins p g c o n q .party ≡ q) × ((g ≡ true) × (o ≡ false)))
 begins-one p false c o n q = inl refl
 begins-one p true true o n q = inl refl
 begins-one p true false true n q = inl refl
 begins-one p true false false true q = inl refl
 begins-one p true false false false q = inr (refl, (refl, refl))
 
-rouses-one : (p : Party) (g s : Bool) (q : Reply) → (rouses p g s q .party ≡ p) ⊎ ((rouses p g s q .party ≡ q .party) × ((g ≡ true) × (s ≡ true)))
+pub rouses-one : (p : Party) (g s : Bool) (q : Reply) → (rouses p g s q .party ≡ p) ⊎ ((rouses p g s q .party ≡ q .party) × ((g ≡ true) × (s ≡ true)))
 rouses-one p false s q = inl refl
 rouses-one p true false q = inl refl
 rouses-one p true true q = inr (refl, (refl, refl))

@@ -130,7 +130,7 @@ module _ (P S v : ℕ) (on : Bool) (power-ok : powerOk P ≡ true) (slot-ok : sl
     pub own-is : p .own ≡ sizes P S v on side
     own-is = (mine .seat .in-place (attached-here w side payload lent fault g)) .0
 
-    counter-is : p .counter ≡ plus 64 v (countOf side t)
+    pub counter-is : p .counter ≡ plus 64 v (countOf side t)
     counter-is = (mine .seat .in-place (attached-here w side payload lent fault g)) .1
 
     abbrev a : Access

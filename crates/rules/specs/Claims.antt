@@ -89,4 +89,4 @@ module _ (region : List ℕ) (power slot : ℕ) (notfull : Bool) (start : ℕ) w
   Bounded side = (hs ms : List Happening) → AllTyped (hs ++ ms) → AllFair side (hs ++ ms) (begin (created region power slot notfull start))
       → Still (other side) (reached hs) → inCall (partyIn (reached hs) side .step) ≡ true → Willing side ms (reached hs)
       → 4 * room side (capacity power) (reached hs) + 3 ≤ ticks ms (reached hs)
-      → (room side (capacity power) (reached (hs ++ ms)) ≡ 0) × (notesOf (other side) (reached (hs ++ ms)) ≡ notesOf (other side) (reached hs))
+      → (room side (capacity power) (reached (hs ++ ms)) ≡ 0) × (notesOf (other side) (reached (hs ++ ms) .trace) ≡ notesOf (other side) (reached hs .trace))

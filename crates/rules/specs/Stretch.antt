@@ -16,7 +16,7 @@ use Rattle.types.specs.declared.Stance.the-variants.{Resting, Sleeping, Copying
 use Rattle.types.specs.declared.Event.the-variants.{Turn, Failing, Spurious, TimeOut, Push, Pop, Close, Shutdown}
 use Rattle.rules.specs.Sides.{other}
 use Rattle.rules.specs.Take.{stanceOf}
-use Rattle.rules.specs.Run.{Note, World, Happening, attaches, plays, partyIn, takes, happens}
+use Rattle.rules.specs.Run.{Note, Trace, World, Happening, attaches, plays, partyIn, takes, happens}
 
 -- A stretch of one party's own doings. A turn counts where it answers neither 20 nor 253; a begin is no turn
 abbrev pub moves : Stance → Bool
@@ -93,6 +93,6 @@ inCall (ShutRaiseNf c e) = false
 inCall (ShutWakeNf c e) = false
 
 -- the notes that a side has published
-abbrev pub notesOf : Side → World → List Note
-notesOf Sender w = w .trace .sent
-notesOf Recorder w = w .trace .got
+abbrev pub notesOf : Side → Trace → List Note
+notesOf Sender t = t .sent
+notesOf Recorder t = t .got

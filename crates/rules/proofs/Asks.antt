@@ -1,0 +1,198 @@
+-- T2: a willing party alone gets all that there is room for.
+use mathlib.Core.Path.{_≡_, refl, sym, _∙_, subst}
+use mathlib.Core.Bool.{Bool, true, false, not, _&&_}
+use mathlib.Core.List.{List, [], _∷_, _++_}
+use mathlib.Core.Logic.{_⊎_, inl, inr}
+use Prim.Native.Nat.{ℕ, zero, suc, _+_, _-_, _^_, _<_, _≤_}
+use native.Mathlib.Omega.{arith}
+use lib.Dec.{leb}
+use Rattle.words.specs.Le.{leAt}
+use Rattle.types.specs.declared.Side.{Side}
+use Rattle.types.specs.declared.Side.the-variants.{Sender, Recorder}
+use Rattle.types.specs.declared.Party.{Party}
+use Rattle.types.specs.declared.Reply.{Reply}
+use Rattle.types.specs.declared.Answer.the-variants.{GoesOn, Timeout}
+use Rattle.types.specs.declared.Fault.{Fault}
+use Rattle.types.specs.declared.Fault.the-variants.{Fine, Error}
+use Rattle.types.specs.declared.Event.the-variants.{Turn, Failing, Spurious, TimeOut, Push, Pop, Close, Shutdown}
+use Rattle.types.specs.declared.Step.{Step}
+use Rattle.types.specs.declared.Step.the-variants.{Rest, Look, Copy, Publish, Check, Raise, Wake, Gate, Epoch, Again, GateAgain, Wait, Asleep, CloseSet, CloseRaise, CloseWake, ShutSet, ShutRaiseNe, ShutWakeNe, ShutRaiseNf, ShutWakeNf}
+use Rattle.layout.specs.Limits.{powerOk, slotOk, payloadCapacity}
+use Rattle.layout.specs.Header.{flagsAt}
+use Rattle.layout.specs.Create.{created}
+use Rattle.rules.specs.Sides.{other, rings}
+use Rattle.rules.specs.Take.{stanceOf}
+use Rattle.rules.specs.Calls.{isSleeping, sound, ready, reply, at, named, begins, rouses, pushSpec, popSpec, spuriousSpec, timeoutSpec}
+use Rattle.rules.specs.Bench.{settled, played, playedLeaves}
+use Rattle.rules.specs.Run.{Note, World, Happening, attaches, plays, partyIn, takes, happens, run, begin}
+use Rattle.rules.specs.Premises.{Typed, AllTyped, Fair, AllFair, FairTurn}
+use Rattle.rules.specs.Stretch.{tick, ticks, Wills, Willing, inCall, notesOf, counts, Big}
+use Rattle.rules.specs.Claims.{Fresh, reached, Bounded}
+use Rattle.rules.proofs.Leads.{stopAt}
+use Rattle.rules.proofs.Taken.{turnWorld}
+use Rattle.rules.proofs.RealCalls.{Changed, seat-one, seat-two, seated, begins-one, rouses-one, push-changes, pop-changes, spurious-changes, timeout-changes}
+use Rattle.rules.proofs.RealRun.{power-fits, slot-fits, real-reached, real-happens}
+use Rattle.rules.proofs.Own.{cost, Calls, cost-le, cost-none}
+use Rattle.rules.proofs.Fairly.{Ready, ready-happens, still-duty, dozes}
+use Rattle.rules.proofs.Causes.{room-is, ready-reached}
+use Rattle.rules.proofs.Bound.{has-cause, Going, going-turned}
+use Rattle.rules.proofs.Real.{phase, roomIn, rungOf, Real}
+
+-- where a call of a willing party may leave it
+pub data Asked (s : Step) : Step → Type 0 where
+  stayed : Asked s s
+  looks : Asked s Look
+  rests : Asked s Rest
+
+step-of : (p q : Party) (x : Party) (F : Type 0) → Asked (p .step) (q .step) → (x ≡ p) ⊎ ((x ≡ q) × F) → Asked (p .step) (x .step)
+step-of p q x F a (inl e) = rw e stayed
+step-of p q x F a (inr e) = rw (e .0) a
+
+begun-asks : (p : Party) (g c o n : Bool) (q : Party) → q .step ≡ Look → Asked (p .step) (begins p g c o n q .party .step)
+begun-asks p g c o n q e = step-of p q (begins p g c o n q .party) ((g ≡ true) × (o ≡ false)) (rw e looks) (begins-one p g c o n q)
+
+roused-asks : (p : Party) (g s : Bool) (q : Reply) → Asked (p .step) (q .party .step) → Asked (p .step) (rouses p g s q .party .step)
+roused-asks p g s q a = step-of p (q .party) (rouses p g s q .party) ((g ≡ true) × (s ≡ true)) a (rouses-one p g s q)
+
+push-asks : (p : Party) (b : Bool) (t l : ℕ) → Asked (p .step) (pushSpec p b t l .party .step)
+unfolding pushSpec
+push-asks p b t l = begun-asks p (ready Sender p) (p .closed) (b && not (p .own .notfull)) (not (leb l (payloadCapacity (p .own .slot)))) (named b t l p) refl
+
+pop-asks : (p : Party) (b : Bool) (l : ℕ) → Asked (p .step) (popSpec p b l .party .step)
+unfolding popSpec
+pop-asks p b l = begun-asks p (ready Recorder p) (p .closed) false false (named b 0 l p) refl
+
+spurious-asks : (side : Side) (p : Party) → Asked (p .step) (spuriousSpec side p .party .step)
+unfolding spuriousSpec
+spurious-asks side p = roused-asks p (sound side p) (isSleeping (stanceOf (p .step))) (reply (at Look p) GoesOn) looks
+
+timeout-asks : (side : Side) (p : Party) → Asked (p .step) (timeoutSpec side p .party .step)
+unfolding timeoutSpec
+timeout-asks side p = roused-asks p (sound side p) (isSleeping (stanceOf (p .step))) (reply (at Rest p) Timeout) rests
+
+asked-calls : (s u : Step) → Asked s u → Calls (phase s) → Calls (phase u)
+asked-calls s u stayed c = c
+asked-calls s u looks c = tt
+asked-calls s u rests c = tt
+
+-- between calls, to ask costs nothing
+asked-cost : (s u : Step) (k x : ℕ) → Asked s u → (s ≡ Rest) ⊎ (s ≡ Asleep) → (0 < k → s ≡ Asleep → ⊥) → cost u k x ≤ cost s k x
+asked-cost s u zero x a f d = omega arith
+asked-cost s u (suc k) x a (inr e) d = absurd (d (omega arith) e)
+asked-cost s u (suc k) x stayed (inl e) d = omega arith
+asked-cost s u (suc k) x looks (inl e) d = rw e (omega arith)
+asked-cost s u (suc k) x rests (inl e) d = rw e (omega arith)
+
+in-call : (s : Step) → inCall s ≡ true → Calls (phase s)
+in-call Rest e = tt
+in-call Look e = tt
+in-call Copy e = tt
+in-call (Publish l t) e = tt
+in-call (Check l t) e = tt
+in-call (Raise l t) e = tt
+in-call (Wake l t) e = tt
+in-call Gate e = tt
+in-call Epoch e = tt
+in-call (Again f) e = tt
+in-call (GateAgain f) e = tt
+in-call (Wait f) e = tt
+in-call Asleep e = tt
+in-call CloseSet e = absurd (let z : _≡_ {A = ℕ} 0 1 = cc in omega arith)
+in-call CloseRaise e = absurd (let z : _≡_ {A = ℕ} 0 1 = cc in omega arith)
+in-call CloseWake e = absurd (let z : _≡_ {A = ℕ} 0 1 = cc in omega arith)
+in-call (ShutSet c) e = absurd (let z : _≡_ {A = ℕ} 0 1 = cc in omega arith)
+in-call (ShutRaiseNe c) e = absurd (let z : _≡_ {A = ℕ} 0 1 = cc in omega arith)
+in-call (ShutWakeNe c) e = absurd (let z : _≡_ {A = ℕ} 0 1 = cc in omega arith)
+in-call (ShutRaiseNf c f) e = absurd (let z : _≡_ {A = ℕ} 0 1 = cc in omega arith)
+in-call (ShutWakeNf c f) e = absurd (let z : _≡_ {A = ℕ} 0 1 = cc in omega arith)
+
+own-prompt : (side : Side) (fault : Fault) (w : World) → FairTurn side side fault w → (e : ℕ) → partyIn w side .step ≡ Wait e → rungOf side (w .trace) < 2 ^ 32
+own-prompt Sender fault w f = f
+own-prompt Recorder fault w f = f
+
+module _ (P S v : ℕ) (on : Bool) where
+  -- a call of one's own
+  going-called : (w : World) (side : Side) (q : Party) → Changed side (partyIn w side) q → Asked (partyIn w side .step) (q .step) → Ready P S v on side w → (notes : List Note) (n : ℕ)
+      → Going P S v on side notes n w → Going P S v on side notes n (seated P S v on w side q)
+  going-called w side q c a y notes n go =
+      record {
+        quiet = rw (seat-two side (w .bench) q) (go .quiet);
+        calls = rw (seat-one side (w .bench) q) (asked-calls (partyIn w side .step) (q .step) a (go .calls));
+        left = rw (seat-one side (w .bench) q) (by c);
+        same = go .same;
+      }
+    where
+      by : Changed side (partyIn w side) q → cost (q .step) (roomIn P S v on side (w .trace)) (roomIn P S v on (other side) (w .trace)) ≤ n
+      by (inl e) = rw e (go .left)
+      by (inr b) =
+          let k = roomIn P S v on side (w .trace) in
+          let h = asked-cost (partyIn w side .step) (q .step) k (roomIn P S v on (other side) (w .trace)) a (b .from)
+          (λ l e. dozes P S v on (rings (other side) on) side (other side) w (go .quiet) e y (has-cause k (stopAt side (leAt 4 (w .region) flagsAt)) l)) in
+          omega (arith, h, go .left)
+
+  module _ (power-ok : powerOk P ≡ true) (slot-ok : slotOk S ≡ true) where
+    turned : (w : World) → Real P S v on w → (side mover : Side) (payload lent : List ℕ) (fault : Fault) → mover ≡ side → Big side w → (takes w mover payload lent fault ≡ true → FairTurn side mover fault w) → Ready P S v on side w
+        → (notes : List Note) (n : ℕ) → Going P S v on side notes (counts w mover payload lent fault + n) w → Going P S v on side notes n (turnWorld w mover payload lent fault)
+    turned w real side mover payload lent fault e big f y notes n go =
+        subst (λ (m : Side). (takes w m payload lent fault ≡ true → FairTurn side m fault w) → Going P S v on side notes (counts w m payload lent fault + n) w → Going P S v on side notes n (turnWorld w m payload lent fault))
+        (sym e) (λ f go. going-turned P S v on power-ok slot-ok w real side payload lent fault notes n big (λ g. own-prompt side fault w (f g)) y go) f go
+
+    -- a begin is no turn
+    no-tick : (notes : List Note) (n : ℕ) (side : Side) (w : World) → Going P S v on side notes (0 + n) w → Going P S v on side notes n w
+    no-tick notes n side w go = let e : 0 + n ≡ n = omega arith in subst (λ (m : ℕ). Going P S v on side notes m w) e go
+
+    going-happens : (side : Side) (h : Happening) (w : World) → Typed h → Fair side h w → Wills side h w → Real P S v on w → Ready P S v on side w → (notes : List Note) (n : ℕ)
+        → Going P S v on side notes (tick h w + n) w → Going P S v on side notes n (happens h w)
+    unfolding happens played playedLeaves settled
+    going-happens side (attaches other) w t f m real y notes n go = absurd m
+    going-happens side (plays (Turn mover) i o) w t f m real y notes n go = turned w real side mover i o Fine (m .0) (m .1) f y notes n go
+    going-happens side (plays (Failing mover e) i o) w t f m real y notes n go = turned w real side mover i o (Error e) (m .0) (m .1) f y notes n go
+    going-happens side (plays (Spurious mover) i o) w t f m real y notes n go =
+        rw m (going-called w side (spuriousSpec side (partyIn w side) .party) (spurious-changes side (partyIn w side)) (spurious-asks side (partyIn w side)) y notes n (no-tick notes n side w go))
+    going-happens side (plays (TimeOut mover) i o) w t f m real y notes n go =
+        rw m (going-called w side (timeoutSpec side (partyIn w side) .party) (timeout-changes side (partyIn w side)) (timeout-asks side (partyIn w side)) y notes n (no-tick notes n side w go))
+    going-happens side (plays (Push b g l) i o) w t f m real y notes n go =
+        rw m (going-called w Sender (pushSpec (partyIn w Sender) b g l .party) (push-changes (partyIn w Sender) b g l t) (push-asks (partyIn w Sender) b g l) (rw m at y) notes n (rw m at (no-tick notes n side w go)))
+    going-happens side (plays (Pop b l) i o) w t f m real y notes n go =
+        rw m (going-called w Recorder (popSpec (partyIn w Recorder) b l .party) (pop-changes (partyIn w Recorder) b l) (pop-asks (partyIn w Recorder) b l) (rw m at y) notes n (rw m at (no-tick notes n side w go)))
+    going-happens side (plays (Close mover) i o) w t f m real y notes n go = absurd m
+    going-happens side (plays (Shutdown mover) i o) w t f m real y notes n go = absurd m
+
+    going-run : (side : Side) (hs : List Happening) (w : World) → AllTyped hs → AllFair side hs w → Willing side hs w → Real P S v on w → Ready P S v on side w → (notes : List Note) (n : ℕ)
+        → Going P S v on side notes (ticks hs w + n) w → Going P S v on side notes n (run hs w)
+    unfolding run
+    going-run side [] w t f m real y notes n go = no-tick notes n side w go
+    going-run side (h ∷ hs) w t f m real y notes n go =
+        let e : tick h w + ticks hs (happens h w) + n ≡ tick h w + (ticks hs (happens h w) + n) = omega arith in
+        going-run side hs (happens h w) (t .1) (f .1) (m .1) (real-happens P S v on power-ok slot-ok h w (t .0) real) (ready-happens P S v on power-ok slot-ok side h w (t .0) (f .0) real y) notes n
+        (going-happens side h w (t .0) (f .0) (m .0) real y notes (ticks hs (happens h w) + n) (subst (λ (u : ℕ). Going P S v on side notes u w) e go))
+
+-- a run in two parts
+run-parts : (hs ms : List Happening) (w : World) → run (hs ++ ms) w ≡ run ms (run hs w)
+unfolding run
+run-parts [] ms w = refl
+run-parts (h ∷ hs) ms w = run-parts hs ms (happens h w)
+
+typed-parts : (hs ms : List Happening) → AllTyped (hs ++ ms) → AllTyped hs × AllTyped ms
+typed-parts [] ms t = (tt, t)
+typed-parts (h ∷ hs) ms t = let u = typed-parts hs ms (t .1) in ((t .0, u .0), u .1)
+
+fair-parts : (side : Side) (hs ms : List Happening) (w : World) → AllFair side (hs ++ ms) w → AllFair side hs w × AllFair side ms (run hs w)
+unfolding run
+fair-parts side [] ms w f = (tt, f)
+fair-parts side (h ∷ hs) ms w f = let u = fair-parts side hs ms (happens h w) (f .1) in ((f .0, u .0), u .1)
+
+module _ (r : List ℕ) (P S : ℕ) (on : Bool) (v : ℕ) (fresh : Fresh r P S on v) where
+  pub bounded : (side : Side) → Bounded r P S on v side
+  bounded side hs ms t f still call will long =
+      let w = reached r P S on v hs in
+      let tt2 = typed-parts hs ms t in
+      let ff = fair-parts side hs ms (begin (created r P S on v)) f in
+      let notes = notesOf (other side) (w .trace) in
+      let k = roomIn P S v on side (w .trace) in
+      let x = roomIn P S v on (other side) (w .trace) in
+      let enough : cost (partyIn w side .step) k x ≤ ticks ms w + 0 = omega (arith, cost-le (partyIn w side .step) k x, room-is r P S on v fresh side hs (tt2 .0)) in
+      let start : Going P S v on side notes (ticks ms w + 0) w = record { quiet = still-duty (other side) (partyIn w (other side) .step) still; calls = in-call (partyIn w side .step) call; left = enough; same = refl } in
+      let end = going-run P S v on (power-fits r P S on v fresh) (slot-fits r P S on v fresh) side ms w (tt2 .1) (ff .1) will (real-reached r P S on v fresh hs (tt2 .0)) (ready-reached r P S on v fresh side hs (tt2 .0) (ff .0)) notes 0 start in
+      let last = subst (Going P S v on side notes 0) (sym (run-parts hs ms (begin (created r P S on v)))) end in
+      (room-is r P S on v fresh side (hs ++ ms) t ∙ cost-none _ _ _ (last .left), last .same)

@@ -1,0 +1,237 @@
+-- T2, one happening: what is left to a willing party falls by one at each turn that counts, and never rises.
+use mathlib.Core.Path.{_≡_, refl, sym, ap, _∙_, subst}
+use mathlib.Core.Bool.{Bool, true, false, _&&_}
+use mathlib.Core.List.{List}
+use Prim.Native.Nat.{ℕ, zero, suc, _+_, _-_, _^_, _<_, _≤_}
+use native.Mathlib.Omega.{arith}
+use lib.ListN.{length}
+use Rattle.words.specs.Le.{leAt}
+use Rattle.types.specs.Pick.{pick}
+use Rattle.types.specs.declared.Side.{Side}
+use Rattle.types.specs.declared.Side.the-variants.{Sender, Recorder}
+use Rattle.types.specs.declared.Bell.the-variants.{NotEmpty, NotFull}
+use Rattle.types.specs.declared.Party.{Party}
+use Rattle.types.specs.declared.Fault.{Fault}
+use Rattle.types.specs.declared.Step.{Step}
+use Rattle.types.specs.declared.Step.the-variants.{Rest, Look, Copy, Publish, Check, Raise, Wake, Gate, Epoch, Again, GateAgain, Wait, Asleep, CloseSet, CloseRaise, CloseWake, ShutSet, ShutRaiseNe, ShutWakeNe, ShutRaiseNf, ShutWakeNf}
+use Rattle.types.specs.declared.Access.{Access}
+use Rattle.layout.specs.Limits.{powerOk, slotOk}
+use Rattle.layout.specs.Header.{flagsAt, bellAt}
+use Rattle.rules.specs.Sides.{other, rings, sleepBell}
+use Rattle.rules.specs.Take.{stanceOf, stepAfter, moveAt, moveOf}
+use Rattle.rules.specs.Next.{nextAt, nextSpec}
+use Rattle.rules.specs.Access.{valueOf, bufferOf}
+use Rattle.rules.specs.Turn.{errorOf}
+use Rattle.rules.specs.Run.{Note, Trace, World, partyIn, takes, traced}
+use Rattle.rules.specs.Stretch.{moves, counts, Big, notesOf}
+use Rattle.rules.proofs.Leads.{stopAt, Leads}
+use Rattle.rules.proofs.Does.{Does, does, nothing, looks, flags, reads, writes, takes as read, stores, raises, closes, shuts, waits as wait, wakes}
+use Rattle.rules.proofs.Taken.{turnWorld, turn-refused}
+use Rattle.rules.proofs.RealTurn.{own-is, counter-is, access-is, next-step, leads-here, after-turn, turn-is-after}
+use Rattle.rules.proofs.Heard.{Cause, none, duty, roomBy}
+use Rattle.rules.proofs.Own.{cost, Tries, Calls, ownRoom, fall, calls-on}
+use Rattle.rules.proofs.Effects.{room-own-is, room-other-is}
+use Rattle.rules.proofs.Listening.{ReadyAt, unrung, duty-kept, mover-is, waiter-is, trace-is}
+use Rattle.rules.proofs.Fairly.{Ready, dozes}
+use Rattle.rules.proofs.Fits.{no-spill}
+use Rattle.rules.proofs.Real.{waits, phase, roomIn, rungOf, Since, HasRoom, Real}
+
+-- the two steps that no turn counts at, and the others
+data Kind : Step → Type 0 where
+  rests : Kind Rest
+  dreams : Kind Asleep
+  acts : {s : Step} → moves (stanceOf s) ≡ true → Kind s
+
+kind : (s : Step) → Kind s
+kind Rest = rests
+kind Look = acts refl
+kind Copy = acts refl
+kind (Publish l t) = acts refl
+kind (Check l t) = acts refl
+kind (Raise l t) = acts refl
+kind (Wake l t) = acts refl
+kind Gate = acts refl
+kind Epoch = acts refl
+kind (Again f) = acts refl
+kind (GateAgain f) = acts refl
+kind (Wait f) = acts refl
+kind Asleep = dreams
+kind CloseSet = acts refl
+kind CloseRaise = acts refl
+kind CloseWake = acts refl
+kind (ShutSet c) = acts refl
+kind (ShutRaiseNe c) = acts refl
+kind (ShutWakeNe c) = acts refl
+kind (ShutRaiseNf c f) = acts refl
+kind (ShutWakeNf c f) = acts refl
+
+moves-off : (s u : Step) → moves (stanceOf s) ≡ true → moves (stanceOf u) ≡ false → s ≡ u → ⊥
+moves-off s u a b e =
+    let q : true ≡ false = sym a ∙ ap (λ (x : Step). moves (stanceOf x)) e ∙ b in
+    let z : _≡_ {A = ℕ} 0 1 = cc in omega arith
+
+-- no room stays no room
+own-room-none : (s : Step) → ownRoom s 0 ≡ 0
+own-room-none Rest = refl
+own-room-none Look = refl
+own-room-none Copy = refl
+own-room-none (Publish l t) = refl
+own-room-none (Check l t) = refl
+own-room-none (Raise l t) = refl
+own-room-none (Wake l t) = refl
+own-room-none Gate = refl
+own-room-none Epoch = refl
+own-room-none (Again e) = refl
+own-room-none (GateAgain e) = refl
+own-room-none (Wait e) = refl
+own-room-none Asleep = refl
+own-room-none CloseSet = refl
+own-room-none CloseRaise = refl
+own-room-none CloseWake = refl
+own-room-none (ShutSet c) = refl
+own-room-none (ShutRaiseNe c) = refl
+own-room-none (ShutWakeNe c) = refl
+own-room-none (ShutRaiseNf c e) = refl
+own-room-none (ShutWakeNf c e) = refl
+
+cost-zero : (s next : Step) (x : ℕ) → cost next (ownRoom s 0) x ≡ 0
+cost-zero s next x = ap (λ (k : ℕ). cost next k x) (own-room-none s)
+
+-- one turn: by the room, and by whether it counts
+turn-cost : (k x : ℕ) (z m r : Bool) (b n : ℕ) (s next : Step) → Leads k x z m r b s next → Kind s → Calls (phase s) → (s ≡ Rest → next ≡ Rest) → (0 < k → s ≡ Asleep → ⊥) → (0 < k → s ≡ Copy → next ≡ Rest → ⊥)
+    → (0 < k → (e : ℕ) → s ≡ Wait e → b ≡ e → ⊥) → cost s k x ≤ pick (moves (stanceOf s)) 1 0 + n → cost next (ownRoom s k) (roomBy s x) ≤ n
+turn-cost zero x z m r b n s next leads kind c i j f d h = omega (arith, cost-zero s next (roomBy s x))
+turn-cost (suc k) x z m r b n s next leads rests c i j f d h = rw (i refl) (omega arith)
+turn-cost (suc k) x z m r b n s next leads dreams c i j f d h = absurd (j (omega arith) refl)
+turn-cost (suc k) x z m r b n s next leads (acts move) c i j f d h =
+    let l : cost s (suc k) x ≤ 1 + n = rw move at h in
+    omega (arith, fall k x z m r b s next leads c (moves-off s Rest move refl) (moves-off s Asleep move refl) (f (omega arith)) (d (omega arith)))
+
+-- a turn changes its own party's notes alone
+module _ (p : Party) (payload buffer : List ℕ) (t : Trace) where
+  notes-kept : (side : Side) (n : ℕ) (s : Step) (a : Access) → Does side n s a → notesOf (other side) (traced a p payload buffer t) ≡ notesOf (other side) t
+  notes-kept Sender n s a (nothing l) = refl
+  notes-kept Sender n s a (looks l) = refl
+  notes-kept Sender n s a (flags l) = refl
+  notes-kept Sender n s a reads = refl
+  notes-kept Sender n s a (writes e) = refl
+  notes-kept Sender n s a (read e) = refl
+  notes-kept Sender n s a stores = refl
+  notes-kept Sender n s a (raises l NotEmpty) = refl
+  notes-kept Sender n s a (raises l NotFull) = refl
+  notes-kept Sender n s a closes = refl
+  notes-kept Sender n s a shuts = refl
+  notes-kept Sender n s a wait = refl
+  notes-kept Sender n s a (wakes l b m) = refl
+  notes-kept Recorder n s a (nothing l) = refl
+  notes-kept Recorder n s a (looks l) = refl
+  notes-kept Recorder n s a (flags l) = refl
+  notes-kept Recorder n s a reads = refl
+  notes-kept Recorder n s a (writes e) = refl
+  notes-kept Recorder n s a (read e) = refl
+  notes-kept Recorder n s a stores = refl
+  notes-kept Recorder n s a (raises l NotEmpty) = refl
+  notes-kept Recorder n s a (raises l NotFull) = refl
+  notes-kept Recorder n s a closes = refl
+  notes-kept Recorder n s a shuts = refl
+  notes-kept Recorder n s a wait = refl
+  notes-kept Recorder n s a (wakes l b m) = refl
+
+tries-not : (b : Bool) (e : ℕ) → Tries b (waits e) → ⊥
+tries-not true e y = y
+tries-not false e y = y
+
+-- a party about to sleep over its epoch has no cause not to
+pub naps : (P S v : ℕ) (on h : Bool) (σ τ : Side) (w : World) (e : ℕ) → duty τ (partyIn w τ .step) ≡ none → partyIn w σ .step ≡ Wait e → rungOf σ (w .trace) ≡ 0 → ReadyAt P S v on h σ τ w
+    → Cause (roomIn P S v on σ (w .trace)) (stopAt σ (leAt 4 (w .region) flagsAt)) → ⊥
+naps P S v on true σ τ w e s q z y = (rw (q, s) at y) z
+naps P S v on false σ τ w e s q z y = λ c. tries-not (partyIn w σ .blocking) e (rw q at y)
+
+pub has-cause : (k : ℕ) (z : Bool) → 0 < k → Cause k z
+has-cause zero z h = absurd (omega arith)
+has-cause (suc k) z h = tt
+
+module _ (P S v : ℕ) (on : Bool) where
+  -- a stretch under way: the other owes nothing, the party is in a call or between calls, so many turns are left to it at
+  -- most, and the other's notes are what they were
+  pub record Going (side : Side) (notes : List Note) (n : ℕ) (w : World) : Type 0 where
+    pub quiet : duty (other side) (partyIn w (other side) .step) ≡ none
+    pub calls : Calls (phase (partyIn w side .step))
+    pub left : cost (partyIn w side .step) (roomIn P S v on side (w .trace)) (roomIn P S v on (other side) (w .trace)) ≤ n
+    pub same : notesOf (other side) (w .trace) ≡ notes
+
+  module _ (power-ok : powerOk P ≡ true) (slot-ok : slotOk S ≡ true) (w : World) (real : Real P S v on w) (side : Side) (payload lent : List ℕ) (fault : Fault) where
+    abbrev p : Party
+    p = partyIn w side
+
+    abbrev s : Step
+    s = p .step
+
+    abbrev t : Trace
+    t = w .trace
+
+    abbrev k : ℕ
+    k = roomIn P S v on side t
+
+    abbrev z : Bool
+    z = stopAt side (leAt 4 (w .region) flagsAt)
+
+    module _ (g : takes w side payload lent fault ≡ true) where
+      abbrev next : Step
+      next = next-step P S v on power-ok slot-ok w real side payload lent fault g
+
+      abbrev after : World
+      after = after-turn P S v on power-ok slot-ok w real side payload lent fault g
+
+      abbrev value : ℕ
+      value = valueOf (w .region) (p .own) (nextSpec p)
+
+      stays-at-rest : s ≡ Rest → next ≡ Rest
+      unfolding moveOf
+      stays-at-rest e = ap (λ (u : Step). stepAfter (moveAt u (p .own) (p .counter) (p .blocking) (p .length) value (errorOf fault)) u) e
+
+      fits-here : Big side w → s ≡ Copy → next ≡ Rest → ⊥
+      unfolding moveOf
+      fits-here big e q =
+          no-spill P S v on power-ok slot-ok w real side value (own-is P S v on power-ok slot-ok w real side payload lent fault g) (counter-is P S v on power-ok slot-ok w real side payload lent fault g)
+          (ap (valueOf (w .region) (p .own)) (access-is P S v on power-ok slot-ok w real side payload lent fault g ∙ ap (λ (u : Step). nextAt u side (p .counter)) e))
+          (subst (λ (u : Step). HasRoom (phase u) k) e (real .sides side .room)) e big
+          (sym (ap (λ (u : Step). stepAfter (moveAt u (p .own) (p .counter) (p .blocking) (p .length) value (errorOf fault)) u) e) ∙ q)
+
+      -- it does not fall asleep with room
+      wakeful : duty (other side) (partyIn w (other side) .step) ≡ none → ((e : ℕ) → s ≡ Wait e → rungOf side t < 2 ^ 32) → Ready P S v on side w → 0 < k → (e : ℕ) → s ≡ Wait e → leAt 4 (w .region) (bellAt (sleepBell side)) ≡ e → ⊥
+      wakeful quiet prompt y h e at b =
+          naps P S v on (rings (other side) on) side (other side) w e quiet at
+          (unrung e (leAt 4 (w .region) (bellAt (sleepBell side))) (rungOf side t) (prompt e at)
+          (subst (λ (u : Step). Since (phase u) (leAt 4 (w .region) (bellAt (sleepBell side))) (rungOf side t)) at (real .sides side .since)) b)
+          y (has-cause k z h)
+
+      going-taken : (notes : List Note) (n : ℕ) → Big side w → ((e : ℕ) → s ≡ Wait e → rungOf side t < 2 ^ 32) → Ready P S v on side w → Going side notes (pick (moves (stanceOf s)) 1 0 + n) w → Going side notes n after
+      going-taken notes n big prompt y go =
+          let leads = leads-here P S v on power-ok slot-ok w real side payload lent fault g in
+          let me = mover-is P S v on power-ok slot-ok w real side payload lent fault g in
+          let them = waiter-is P S v on power-ok slot-ok w real side payload lent fault g in
+          let trail = trace-is P S v on power-ok slot-ok w real side payload lent fault g in
+          let buffer = bufferOf (w .region) (p .own) (nextAt s side (p .counter)) (p .length) lent in
+          record {
+            quiet = ap (λ (q : Party). duty (other side) (q .step)) them ∙ duty-kept P S v on power-ok slot-ok w real side payload lent fault g ∙ go .quiet;
+            calls = rw me (calls-on _ _ _ _ _ _ s next leads (go .calls));
+            left = rw (me, trail, room-own-is p payload buffer t P S v on (w .region) (real .queue) side s (real .sides side .room), room-other-is p payload buffer t P S v on (w .region) (real .queue) side s (real .sides side .room))
+                (turn-cost k _ _ _ _ _ n s next leads (kind s) (go .calls) stays-at-rest
+                (λ h e. dozes P S v on (rings (other side) on) side (other side) w (go .quiet) e y (has-cause k z h))
+                (λ h. fits-here big) (wakeful (go .quiet) prompt y) (go .left));
+            same = ap (notesOf (other side)) trail ∙ notes-kept p payload buffer t side (p .counter) s (nextAt s side (p .counter)) (does side (p .counter) s) ∙ go .same;
+          }
+
+    pub going-turned : (notes : List Note) (n : ℕ) → Big side w → (takes w side payload lent fault ≡ true → (e : ℕ) → s ≡ Wait e → rungOf side t < 2 ^ 32) → Ready P S v on side w
+        → Going side notes (counts w side payload lent fault + n) w → Going side notes n (turnWorld w side payload lent fault)
+    going-turned notes n big prompt y go = by (takes w side payload lent fault) refl
+      where
+        by : (b : Bool) → takes w side payload lent fault ≡ b → Going side notes n (turnWorld w side payload lent fault)
+        by true g =
+            subst (Going side notes n) (sym (turn-is-after P S v on power-ok slot-ok w real side payload lent fault g))
+            (going-taken g notes n big (prompt g) y (subst (λ (b : Bool). Going side notes (pick (b && moves (stanceOf s)) 1 0 + n) w) g go))
+        by false g =
+            let e : 0 + n ≡ n = omega arith in
+            subst (Going side notes n) (sym (turn-refused w side payload lent fault g))
+            (subst (λ (m : ℕ). Going side notes m w) e (subst (λ (b : Bool). Going side notes (pick (b && moves (stanceOf s)) 1 0 + n) w) g go))
