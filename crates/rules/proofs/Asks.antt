@@ -106,7 +106,7 @@ in-call (ShutWakeNe c) e = absurd (let z : _≡_ {A = ℕ} 0 1 = cc in omega ari
 in-call (ShutRaiseNf c f) e = absurd (let z : _≡_ {A = ℕ} 0 1 = cc in omega arith)
 in-call (ShutWakeNf c f) e = absurd (let z : _≡_ {A = ℕ} 0 1 = cc in omega arith)
 
-own-prompt : (side : Side) (fault : Fault) (w : World) → FairTurn side side fault w → (e : ℕ) → partyIn w side .step ≡ Wait e → rungOf side (w .trace) < 2 ^ 32
+pub own-prompt : (side : Side) (fault : Fault) (w : World) → FairTurn side side fault w → (e : ℕ) → partyIn w side .step ≡ Wait e → rungOf side (w .trace) < 2 ^ 32
 own-prompt Sender fault w f = f
 own-prompt Recorder fault w f = f
 
@@ -168,16 +168,16 @@ module _ (P S v : ℕ) (on : Bool) where
         (going-happens side h w (t .0) (f .0) (m .0) real y notes (ticks hs (happens h w) + n) (subst (λ (u : ℕ). Going P S v on side notes u w) e go))
 
 -- a run in two parts
-run-parts : (hs ms : List Happening) (w : World) → run (hs ++ ms) w ≡ run ms (run hs w)
+pub run-parts : (hs ms : List Happening) (w : World) → run (hs ++ ms) w ≡ run ms (run hs w)
 unfolding run
 run-parts [] ms w = refl
 run-parts (h ∷ hs) ms w = run-parts hs ms (happens h w)
 
-typed-parts : (hs ms : List Happening) → AllTyped (hs ++ ms) → AllTyped hs × AllTyped ms
+pub typed-parts : (hs ms : List Happening) → AllTyped (hs ++ ms) → AllTyped hs × AllTyped ms
 typed-parts [] ms t = (tt, t)
 typed-parts (h ∷ hs) ms t = let u = typed-parts hs ms (t .1) in ((t .0, u .0), u .1)
 
-fair-parts : (side : Side) (hs ms : List Happening) (w : World) → AllFair side (hs ++ ms) w → AllFair side hs w × AllFair side ms (run hs w)
+pub fair-parts : (side : Side) (hs ms : List Happening) (w : World) → AllFair side (hs ++ ms) w → AllFair side hs w × AllFair side ms (run hs w)
 unfolding run
 fair-parts side [] ms w f = (tt, f)
 fair-parts side (h ∷ hs) ms w f = let u = fair-parts side hs ms (happens h w) (f .1) in ((f .0, u .0), u .1)

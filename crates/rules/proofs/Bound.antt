@@ -37,12 +37,12 @@ use Rattle.rules.proofs.Fits.{no-spill}
 use Rattle.rules.proofs.Real.{waits, phase, roomIn, rungOf, Since, HasRoom, Real}
 
 -- the two steps that no turn counts at, and the others
-data Kind : Step → Type 0 where
+pub data Kind : Step → Type 0 where
   rests : Kind Rest
   dreams : Kind Asleep
   acts : {s : Step} → moves (stanceOf s) ≡ true → Kind s
 
-kind : (s : Step) → Kind s
+pub kind : (s : Step) → Kind s
 kind Rest = rests
 kind Look = acts refl
 kind Copy = acts refl
@@ -65,7 +65,7 @@ kind (ShutWakeNe c) = acts refl
 kind (ShutRaiseNf c f) = acts refl
 kind (ShutWakeNf c f) = acts refl
 
-moves-off : (s u : Step) → moves (stanceOf s) ≡ true → moves (stanceOf u) ≡ false → s ≡ u → ⊥
+pub moves-off : (s u : Step) → moves (stanceOf s) ≡ true → moves (stanceOf u) ≡ false → s ≡ u → ⊥
 moves-off s u a b e =
     let q : true ≡ false = sym a ∙ ap (λ (x : Step). moves (stanceOf x)) e ∙ b in
     let z : _≡_ {A = ℕ} 0 1 = cc in omega arith
@@ -198,13 +198,13 @@ module _ (P S v : ℕ) (on : Bool) where
           (subst (λ (u : Step). HasRoom (phase u) k) e (real .sides side .room)) e big
           (sym (ap (λ (u : Step). stepAfter (moveAt u (p .own) (p .counter) (p .blocking) (p .length) value (errorOf fault)) u) e) ∙ q)
 
-      -- it does not fall asleep with room
-      wakeful : duty (other side) (partyIn w (other side) .step) ≡ none → ((e : ℕ) → s ≡ Wait e → rungOf side t < 2 ^ 32) → Ready P S v on side w → 0 < k → (e : ℕ) → s ≡ Wait e → leAt 4 (w .region) (bellAt (sleepBell side)) ≡ e → ⊥
-      wakeful quiet prompt y h e at b =
+      -- it does not fall asleep with cause
+      pub wakeful : duty (other side) (partyIn w (other side) .step) ≡ none → ((e : ℕ) → s ≡ Wait e → rungOf side t < 2 ^ 32) → Ready P S v on side w → Cause k z → (e : ℕ) → s ≡ Wait e → leAt 4 (w .region) (bellAt (sleepBell side)) ≡ e → ⊥
+      wakeful quiet prompt y c e at b =
           naps P S v on (rings (other side) on) side (other side) w e quiet at
           (unrung e (leAt 4 (w .region) (bellAt (sleepBell side))) (rungOf side t) (prompt e at)
           (subst (λ (u : Step). Since (phase u) (leAt 4 (w .region) (bellAt (sleepBell side))) (rungOf side t)) at (real .sides side .since)) b)
-          y (has-cause k z h)
+          y c
 
       going-taken : (notes : List Note) (n : ℕ) → Big side w → ((e : ℕ) → s ≡ Wait e → rungOf side t < 2 ^ 32) → Ready P S v on side w → Going side notes (pick (moves (stanceOf s)) 1 0 + n) w → Going side notes n after
       going-taken notes n big prompt y go =
@@ -219,7 +219,7 @@ module _ (P S v : ℕ) (on : Bool) where
             left = rw (me, trail, room-own-is p payload buffer t P S v on (w .region) (real .queue) side s (real .sides side .room), room-other-is p payload buffer t P S v on (w .region) (real .queue) side s (real .sides side .room))
                 (turn-cost k _ _ _ _ _ n s next leads (kind s) (go .calls) stays-at-rest
                 (λ h e. dozes P S v on (rings (other side) on) side (other side) w (go .quiet) e y (has-cause k z h))
-                (λ h. fits-here big) (wakeful (go .quiet) prompt y) (go .left));
+                (λ h. fits-here big) (λ h. wakeful (go .quiet) prompt y (has-cause k z h)) (go .left));
             same = ap (notesOf (other side)) trail ∙ notes-kept p payload buffer t side (p .counter) s (nextAt s side (p .counter)) (does side (p .counter) s) ∙ go .same;
           }
 

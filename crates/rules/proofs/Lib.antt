@@ -27,3 +27,4 @@ pub mod Causes
 pub mod Fits
 pub mod Bound
 pub mod Asks
+pub mod Ending

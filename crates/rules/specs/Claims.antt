@@ -1,6 +1,6 @@
 -- What is claimed of every run: demand 3 in document 01's words. The proofs are in proofs/.
 use mathlib.Core.Path.{_≡_}
-use mathlib.Core.Bool.{Bool, true, false}
+use mathlib.Core.Bool.{Bool, true, false, _||_}
 use mathlib.Core.List.{List, [], _∷_, _++_}
 use Prim.Native.Nat.{ℕ, _+_, _-_, _*_, _^_, _<_, _≤_}
 use lib.ListN.{length, take}
@@ -11,7 +11,7 @@ use Rattle.types.specs.declared.Side.the-variants.{Sender, Recorder}
 use Rattle.types.specs.declared.Fault.{Fault}
 use Rattle.types.specs.declared.Fault.the-variants.{Fine, Error}
 use Rattle.types.specs.declared.Step.{Step}
-use Rattle.types.specs.declared.Step.the-variants.{Publish, Check, Wake, Asleep}
+use Rattle.types.specs.declared.Step.the-variants.{Rest, Publish, Check, Wake, Asleep}
 use Rattle.types.specs.declared.Event.{Event}
 use Rattle.types.specs.declared.Event.the-variants.{Turn, Failing}
 use Rattle.types.specs.declared.Answer.the-variants.{Done}
@@ -22,7 +22,7 @@ use Rattle.rules.specs.Sides.{other}
 use Rattle.rules.specs.Turn.{turnSpec}
 use Rattle.rules.specs.Run.{Note, Trace, World, Happening, plays, partyIn, takes, happens, run, begin}
 use Rattle.rules.specs.Premises.{AllTyped, AllFair, Still, down, closedBit}
-use Rattle.rules.specs.Stretch.{ticks, Willing, inCall, notesOf}
+use Rattle.rules.specs.Stretch.{ticks, AllOwn, Willing, inCall, notesOf}
 
 -- how many notes wait: head − tail, in the region's bytes
 abbrev pub waiting : World → ℕ
@@ -90,3 +90,11 @@ module _ (region : List ℕ) (power slot : ℕ) (notfull : Bool) (start : ℕ) w
       → Still (other side) (reached hs) → inCall (partyIn (reached hs) side .step) ≡ true → Willing side ms (reached hs)
       → 4 * room side (capacity power) (reached hs) + 3 ≤ ticks ms (reached hs)
       → (room side (capacity power) (reached (hs ++ ms)) ≡ 0) × (notesOf (other side) (reached (hs ++ ms) .trace) ≡ notesOf (other side) (reached hs .trace))
+
+  -- T4: once the other has closed or anyone has shut down, and the other is between calls or asleep and not moving, a call
+  -- under way answers within 7 turns of its own, whatever its waits do and whatever it asks meanwhile
+  abbrev pub Ends : Side → Type 0
+  Ends side = (hs ms : List Happening) → AllTyped (hs ++ ms) → AllFair side (hs ++ ms) (begin (created region power slot notfull start))
+      → Still (other side) (reached hs) → (down (reached hs) || closedBit (other side) (reached hs)) ≡ true → AllOwn side ms
+      → 7 ≤ ticks ms (reached hs)
+      → (first : List Happening) × ((rest : List Happening) × ((ms ≡ first ++ rest) × ((ticks first (reached hs) ≤ 7) × (partyIn (reached (hs ++ first)) side .step ≡ Rest))))

@@ -1,0 +1,203 @@
+-- T4: with a flag up, every call ends.
+use mathlib.Core.Path.{_≡_, refl, sym, ap, _∙_, subst}
+use mathlib.Core.Bool.{Bool, true, false, _&&_, _||_}
+use mathlib.Core.List.{List, [], _∷_, _++_}
+use mathlib.Core.Logic.{_⊎_, inl, inr}
+use Prim.Native.Nat.{ℕ, zero, suc, _+_, _-_, _^_, _<_, _≤_}
+use native.Mathlib.Omega.{arith}
+use Rattle.words.specs.Le.{leAt}
+use Rattle.types.specs.Pick.{pick}
+use Rattle.types.specs.declared.Side.{Side}
+use Rattle.types.specs.declared.Mark.{Mark}
+use Rattle.types.specs.declared.Mark.the-variants.{Shutdown as ShutMark}
+use Rattle.types.specs.declared.Bench.{Bench}
+use Rattle.types.specs.declared.Party.{Party}
+use Rattle.types.specs.declared.Fault.{Fault}
+use Rattle.types.specs.declared.Fault.the-variants.{Fine, Error}
+use Rattle.types.specs.declared.Event.the-variants.{Turn, Failing, Spurious, TimeOut, Push, Pop, Close, Shutdown}
+use Rattle.types.specs.declared.Step.{Step}
+use Rattle.types.specs.declared.Step.the-variants.{Rest, Asleep, Wait}
+use Rattle.types.specs.declared.Side.the-variants.{Sender, Recorder}
+use Rattle.types.specs.declared.Access.{Access}
+use Rattle.types.specs.declared.Access.the-variants.{None, LoadCounter, LoadFlags, LoadBell, WriteSlot, ReadSlot, StoreCounter, RaiseBell, SetFlag, WaitBell, WakeBell}
+use Rattle.layout.specs.Limits.{powerOk, slotOk}
+use Rattle.layout.specs.Flags.{worth, reservedFrom, bitOn, setBit, closeMark}
+use Rattle.layout.specs.Header.{flagsAt, bellAt}
+use Rattle.layout.specs.Create.{created}
+use Rattle.layout.proofs.FlagLaws.{sameMark, mark-set}
+use Rattle.rules.specs.Sides.{other, rings, sleepBell}
+use Rattle.rules.specs.Take.{stanceOf}
+use Rattle.rules.specs.Next.{nextAt}
+use Rattle.rules.specs.Calls.{pushSpec, popSpec, closeSpec, shutSpec, spuriousSpec, timeoutSpec}
+use Rattle.rules.specs.Bench.{settled, played, playedLeaves}
+use Rattle.rules.specs.Run.{World, Happening, attaches, plays, partyIn, takes, happens, run, begin}
+use Rattle.rules.specs.Premises.{Typed, AllTyped, Fair, AllFair, FairTurn}
+use Rattle.rules.specs.Stretch.{moves, counts, tick, ticks, Does, AllOwn}
+use Rattle.rules.specs.Claims.{Fresh, reached, Ends}
+use Rattle.rules.proofs.After.{flagsBy}
+use Rattle.rules.proofs.Leads.{stopAt, Leads}
+use Rattle.rules.proofs.Taken.{turnWorld, turn-refused}
+use Rattle.rules.proofs.RealTurn.{next-step, leads-here, after-turn, turn-is-after}
+use Rattle.rules.proofs.RealCalls.{Changed, seat-same, seated, push-changes, pop-changes, close-changes, shut-changes, spurious-changes, timeout-changes}
+use Rattle.rules.proofs.RealRun.{power-fits, slot-fits, real-reached, real-happens}
+use Rattle.rules.proofs.Heard.{Cause, none, duty}
+use Rattle.rules.proofs.Own.{less, toRest, seven, rested, nearer}
+use Rattle.rules.proofs.Listening.{duty-kept, mover-is, waiter-is, flags-left}
+use Rattle.rules.proofs.Fairly.{Ready, ready-happens, still-duty, dozes}
+use Rattle.rules.proofs.Causes.{ready-reached}
+use Rattle.rules.proofs.Bound.{Kind, rests, dreams, acts, kind, moves-off, wakeful}
+use Rattle.rules.proofs.Asks.{own-prompt, run-parts, typed-parts, fair-parts}
+use Rattle.rules.proofs.Real.{roomIn, rungOf, Real}
+
+-- a flag that is up stays up
+mark-up : (n : Mark) (f : ℕ) → f < reservedFrom → (m : Mark) → bitOn (worth m) f ≡ true → bitOn (worth m) (setBit (worth n) f) ≡ true
+mark-up n f h m e = mark-set n f h m ∙ by (sameMark m n)
+  where
+    by : (b : Bool) → pick b true (bitOn (worth m) f) ≡ true
+    by true = refl
+    by false = e
+
+or-up : (a b c d : Bool) → (a ≡ true → c ≡ true) → (b ≡ true → d ≡ true) → (a || b) ≡ true → (c || d) ≡ true
+or-up true b c d f g e = rw (f refl) refl
+or-up false true true d f g e = refl
+or-up false true false d f g e = g refl
+or-up false false c d f g e = absurd (let z : _≡_ {A = ℕ} 0 1 = cc in omega arith)
+
+stop-up : (side : Side) (a : Access) (f : ℕ) → f < reservedFrom → stopAt side f ≡ true → stopAt side (flagsBy a f) ≡ true
+stop-up side None f h e = e
+stop-up side (LoadCounter s) f h e = e
+stop-up side LoadFlags f h e = e
+stop-up side (LoadBell b) f h e = e
+stop-up side (WriteSlot n) f h e = e
+stop-up side (ReadSlot n) f h e = e
+stop-up side (StoreCounter s n) f h e = e
+stop-up side (RaiseBell b) f h e = e
+stop-up side (SetFlag m) f h e =
+    or-up (bitOn (worth ShutMark) f) (bitOn (worth (closeMark (other side))) f) _ _ (mark-up m f h ShutMark) (mark-up m f h (closeMark (other side))) e
+stop-up side (WaitBell b n) f h e = e
+stop-up side (WakeBell b n) f h e = e
+
+stop-cause : (k : ℕ) (z : Bool) → z ≡ true → Cause k z
+stop-cause zero z e = rw e tt
+stop-cause (suc k) z e = tt
+
+-- a turn before rest
+one-less : (s next : Step) → (s ≡ Rest → ⊥) → (s ≡ Asleep → ⊥) → toRest next ≤ less (toRest s) → (n : ℕ) → toRest s ≤ n → (toRest next ≤ n - 1) × (1 ≤ n)
+one-less s next i j h n l = by (toRest s) refl h l
+  where
+    by : (m : ℕ) → toRest s ≡ m → toRest next ≤ less m → m ≤ n → (toRest next ≤ n - 1) × (1 ≤ n)
+    by zero e h l = absurd (i (rested s j (omega arith)))
+    by (suc m) e h l = (omega arith, omega arith)
+
+module _ (P S v : ℕ) (on : Bool) where
+  -- a stretch under way: the other owes nothing, a flag is up, so many turns are left at most
+  pub record Ending (side : Side) (n : ℕ) (w : World) : Type 0 where
+    pub quiet : duty (other side) (partyIn w (other side) .step) ≡ none
+    pub up : stopAt side (leAt 4 (w .region) flagsAt) ≡ true
+    pub left : toRest (partyIn w side .step) ≤ n
+
+  abbrev pub Then : Side → (n t : ℕ) → World → Type 0
+  Then side n t w = Ending side (n - t) w × (t ≤ n)
+
+  then-same : (side : Side) (n : ℕ) (w : World) → Ending side n w → Then side n 0 w
+  then-same side n w d = let e : n - 0 ≡ n = omega arith in (rw e d, omega arith)
+
+  awake : (side : Side) (n : ℕ) (w : World) → Ready P S v on side w → Ending side n w → partyIn w side .step ≡ Asleep → ⊥
+  awake side n w y d e = dozes P S v on (rings (other side) on) side (other side) w (d .quiet) e y (stop-cause (roomIn P S v on side (w .trace)) _ (d .up))
+
+  -- a call asked for while another runs changes nothing
+  called : (w : World) (side : Side) (q : Party) → Changed side (partyIn w side) q → (partyIn w side .step ≡ Rest → ⊥) → (partyIn w side .step ≡ Asleep → ⊥) → (n : ℕ) → Ending side n w → Then side n 0 (seated P S v on w side q)
+  called w side q (inl e) i j n d =
+      subst (Then side n 0) (sym (ap (seated P S v on w side) e ∙ ap (λ (b : Bench). record { region = w .region; bench = b; trace = w .trace }) (seat-same side (w .bench)))) (then-same side n w d)
+  called w side q (inr b) i j n d = by (b .from)
+    where
+      by : (partyIn w side .step ≡ Rest) ⊎ (partyIn w side .step ≡ Asleep) → Then side n 0 (seated P S v on w side q)
+      by (inl e) = absurd (i e)
+      by (inr e) = absurd (j e)
+
+  module _ (power-ok : powerOk P ≡ true) (slot-ok : slotOk S ≡ true) where
+    module _ (w : World) (real : Real P S v on w) (side : Side) (payload lent : List ℕ) (fault : Fault) (y : Ready P S v on side w) (n : ℕ) (d : Ending side n w) (i : partyIn w side .step ≡ Rest → ⊥) where
+      abbrev s : Step
+      s = partyIn w side .step
+
+      taken-ends : (g : takes w side payload lent fault ≡ true) → ((e : ℕ) → s ≡ Wait e → rungOf side (w .trace) < 2 ^ 32) → Then side n 1 (after-turn P S v on power-ok slot-ok w real side payload lent fault g)
+      taken-ends g prompt =
+          let next = next-step P S v on power-ok slot-ok w real side payload lent fault g in
+          let me = mover-is P S v on power-ok slot-ok w real side payload lent fault g in
+          let them = waiter-is P S v on power-ok slot-ok w real side payload lent fault g in
+          let leads = subst (λ (z : Bool). Leads (roomIn P S v on side (w .trace)) (roomIn P S v on (other side) (w .trace)) z (partyIn w side .blocking) (rings side on) (leAt 4 (w .region) (bellAt (sleepBell side))) s next) (d .up) (leads-here P S v on power-ok slot-ok w real side payload lent fault g) in
+          let fell = one-less s next i (awake side n w y d)
+          (nearer _ _ _ _ _ s next leads (wakeful P S v on power-ok slot-ok w real side payload lent fault g (d .quiet) prompt y (stop-cause (roomIn P S v on side (w .trace)) _ (d .up)))) n (d .left) in (
+            record {
+              quiet = ap (λ (q : Party). duty (other side) (q .step)) them ∙ duty-kept P S v on power-ok slot-ok w real side payload lent fault g ∙ d .quiet;
+              up = ap (stopAt side) (flags-left P S v on power-ok slot-ok w real side payload lent fault g) ∙ stop-up side (nextAt s side (partyIn w side .counter)) (leAt 4 (w .region) flagsAt) (real .fixed .small) (d .up);
+              left = rw me (fell .0);
+            },
+            fell .1,
+          )
+
+      turned-ends : Kind s → (takes w side payload lent fault ≡ true → (e : ℕ) → s ≡ Wait e → rungOf side (w .trace) < 2 ^ 32) → Then side n (counts w side payload lent fault) (turnWorld w side payload lent fault)
+      turned-ends k prompt = by (takes w side payload lent fault) refl (moves (stanceOf s)) refl
+        where
+          still : (u : Step) → s ≡ u → Kind u → moves (stanceOf u) ≡ true
+          still u e rests = absurd (i e)
+          still u e dreams = absurd (awake side n w y d e)
+          still u e (acts move) = move
+
+          by : (b : Bool) → takes w side payload lent fault ≡ b → (m : Bool) → moves (stanceOf s) ≡ m → Then side n (pick (b && m) 1 0) (turnWorld w side payload lent fault)
+          by false g m e = subst (Then side n 0) (sym (turn-refused w side payload lent fault g)) (then-same side n w d)
+          by true g true e = subst (Then side n 1) (sym (turn-is-after P S v on power-ok slot-ok w real side payload lent fault g)) (taken-ends g (prompt g))
+          by true g false e = absurd (let q = still s refl k in let z : _≡_ {A = ℕ} 0 1 = cc in omega arith)
+
+    -- a turn by its mover's name
+    turned : (w : World) → Real P S v on w → (side mover : Side) (payload lent : List ℕ) (fault : Fault) → mover ≡ side → (takes w mover payload lent fault ≡ true → FairTurn side mover fault w) → Ready P S v on side w
+        → (n : ℕ) → Ending side n w → (partyIn w side .step ≡ Rest → ⊥) → Then side n (counts w mover payload lent fault) (turnWorld w mover payload lent fault)
+    turned w real side mover payload lent fault e f y n d i =
+        subst (λ (m : Side). (takes w m payload lent fault ≡ true → FairTurn side m fault w) → Then side n (counts w m payload lent fault) (turnWorld w m payload lent fault))
+        (sym e) (λ f. turned-ends w real side payload lent fault y n d i (kind (partyIn w side .step)) (λ g. own-prompt side fault w (f g))) f
+
+    ending-happens : (side : Side) (h : Happening) (w : World) → Typed h → Fair side h w → Does side h → Real P S v on w → Ready P S v on side w → (n : ℕ) → Ending side n w → (partyIn w side .step ≡ Rest → ⊥)
+        → Then side n (tick h w) (happens h w)
+    unfolding happens played playedLeaves settled
+    ending-happens side (attaches mover) w t f m real y n d i = absurd m
+    ending-happens side (plays (Turn mover) b o) w t f m real y n d i = turned w real side mover b o Fine m f y n d i
+    ending-happens side (plays (Failing mover e) b o) w t f m real y n d i = turned w real side mover b o (Error e) m f y n d i
+    ending-happens side (plays (Spurious mover) b o) w t f m real y n d i = rw m (called w side (spuriousSpec side (partyIn w side) .party) (spurious-changes side (partyIn w side)) i (awake side n w y d) n d)
+    ending-happens side (plays (TimeOut mover) b o) w t f m real y n d i = rw m (called w side (timeoutSpec side (partyIn w side) .party) (timeout-changes side (partyIn w side)) i (awake side n w y d) n d)
+    ending-happens side (plays (Push c g l) b o) w t f m real y n d i =
+        rw m (called w Sender (pushSpec (partyIn w Sender) c g l .party) (push-changes (partyIn w Sender) c g l t) (rw m at i) (rw m at (awake side n w y d)) n (rw m at d))
+    ending-happens side (plays (Pop c l) b o) w t f m real y n d i =
+        rw m (called w Recorder (popSpec (partyIn w Recorder) c l .party) (pop-changes (partyIn w Recorder) c l) (rw m at i) (rw m at (awake side n w y d)) n (rw m at d))
+    ending-happens side (plays (Close mover) b o) w t f m real y n d i = rw m (called w side (closeSpec side (partyIn w side) .party) (close-changes side (partyIn w side)) i (awake side n w y d) n d)
+    ending-happens side (plays (Shutdown mover) b o) w t f m real y n d i = rw m (called w side (shutSpec side (partyIn w side) .party) (shut-changes side (partyIn w side)) i (awake side n w y d) n d)
+
+    -- the first part of a stretch after which the call has ended
+    abbrev pub Ended : Side → List Happening → (n : ℕ) → World → Type 0
+    Ended side ms n w = (first : List Happening) × ((rest : List Happening) × ((ms ≡ first ++ rest) × ((ticks first w ≤ n) × (partyIn (run first w) side .step ≡ Rest))))
+
+    ending-run : (side : Side) (ms : List Happening) (w : World) → AllTyped ms → AllFair side ms w → AllOwn side ms → Real P S v on w → Ready P S v on side w → (n : ℕ) → Ending side n w → n ≤ ticks ms w → Ended side ms n w
+    unfolding run
+    ending-run side [] w t f m real y n d l = ([], ([], (refl, (omega arith, rested (partyIn w side .step) (awake side n w y d) (omega (arith, d .left))))))
+    ending-run side (h ∷ ms) w t f m real y n d l =
+        by (partyIn w side .step) refl (kind (partyIn w side .step))
+        (λ i.
+        let one = ending-happens side h w (t .0) (f .0) (m .0) real y n d i in
+        let more = ending-run side ms (happens h w) (t .1) (f .1) (m .1) (real-happens P S v on power-ok slot-ok h w (t .0) real) (ready-happens P S v on power-ok slot-ok side h w (t .0) (f .0) real y) (n - tick h w) (one .0)
+        (omega (arith, one .1)) in
+        (h ∷ more .0, (more .1 .0, (ap (λ (u : List Happening). h ∷ u) (more .1 .1 .0), (omega (arith, more .1 .1 .1 .0, one .1), more .1 .1 .1 .1)))))
+      where
+        by : (s : Step) → partyIn w side .step ≡ s → Kind s → ((partyIn w side .step ≡ Rest → ⊥) → Ended side (h ∷ ms) n w) → Ended side (h ∷ ms) n w
+        by s e rests go = ([], (h ∷ ms, (refl, (omega arith, e))))
+        by s e dreams go = absurd (awake side n w y d e)
+        by s e (acts move) go = go (λ q. moves-off s Rest move refl (sym e ∙ q))
+
+module _ (r : List ℕ) (P S : ℕ) (on : Bool) (v : ℕ) (fresh : Fresh r P S on v) where
+  pub ends : (side : Side) → Ends r P S on v side
+  ends side hs ms t f still up own long =
+      let w = reached r P S on v hs in
+      let typed = typed-parts hs ms t in
+      let fair = fair-parts side hs ms (begin (created r P S on v)) f in
+      let start : Ending P S v on side 7 w = record { quiet = still-duty (other side) (partyIn w (other side) .step) still; up = up; left = seven (partyIn w side .step) } in
+      let done = ending-run P S v on (power-fits r P S on v fresh) (slot-fits r P S on v fresh) side ms w (typed .1) (fair .1) own (real-reached r P S on v fresh hs (typed .0))
+      (ready-reached r P S on v fresh side hs (typed .0) (fair .0)) 7 start long in
+      (done .0, (done .1 .0, (done .1 .1 .0, (done .1 .1 .1 .0, subst (λ (u : World). partyIn u side .step ≡ Rest) (sym (run-parts hs (done .0) (begin (created r P S on v)))) (done .1 .1 .1 .1)))))
