@@ -184,15 +184,15 @@ fair-parts side (h ∷ hs) ms w f = let u = fair-parts side hs ms (happens h w) 
 
 module _ (r : List ℕ) (P S : ℕ) (on : Bool) (v : ℕ) (fresh : Fresh r P S on v) where
   pub bounded : (side : Side) → Bounded r P S on v side
-  bounded side hs ms t f still call will long =
+  bounded side hs ms a =
       let w = reached r P S on v hs in
-      let tt2 = typed-parts hs ms t in
-      let ff = fair-parts side hs ms (begin (created r P S on v)) f in
+      let typed = typed-parts hs ms (a .0) in
+      let fair = fair-parts side hs ms (begin (created r P S on v)) (a .1 .0) in
       let notes = notesOf (other side) (w .trace) in
       let k = roomIn P S v on side (w .trace) in
       let x = roomIn P S v on (other side) (w .trace) in
-      let enough : cost (partyIn w side .step) k x ≤ ticks ms w + 0 = omega (arith, cost-le (partyIn w side .step) k x, room-is r P S on v fresh side hs (tt2 .0)) in
-      let start : Going P S v on side notes (ticks ms w + 0) w = record { quiet = still-duty (other side) (partyIn w (other side) .step) still; calls = in-call (partyIn w side .step) call; left = enough; same = refl } in
-      let end = going-run P S v on (power-fits r P S on v fresh) (slot-fits r P S on v fresh) side ms w (tt2 .1) (ff .1) will (real-reached r P S on v fresh hs (tt2 .0)) (ready-reached r P S on v fresh side hs (tt2 .0) (ff .0)) notes 0 start in
+      let enough : cost (partyIn w side .step) k x ≤ ticks ms w + 0 = omega (arith, a .1 .1 .1 .1 .1, cost-le (partyIn w side .step) k x, room-is r P S on v fresh side hs (typed .0)) in
+      let start : Going P S v on side notes (ticks ms w + 0) w = record { quiet = still-duty (other side) (partyIn w (other side) .step) (a .1 .1 .0); calls = in-call (partyIn w side .step) (a .1 .1 .1 .0); left = enough; same = refl } in
+      let end = going-run P S v on (power-fits r P S on v fresh) (slot-fits r P S on v fresh) side ms w (typed .1) (fair .1) (a .1 .1 .1 .1 .0) (real-reached r P S on v fresh hs (typed .0)) (ready-reached r P S on v fresh side hs (typed .0) (fair .0)) notes 0 start in
       let last = subst (Going P S v on side notes 0) (sym (run-parts hs ms (begin (created r P S on v)))) end in
-      (room-is r P S on v fresh side (hs ++ ms) t ∙ cost-none _ _ _ (last .left), last .same)
+      (room-is r P S on v fresh side (hs ++ ms) (a .0) ∙ cost-none _ _ _ (last .left), last .same)

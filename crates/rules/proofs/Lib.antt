@@ -28,3 +28,4 @@ pub mod Fits
 pub mod Bound
 pub mod Asks
 pub mod Ending
+pub mod Delivers
