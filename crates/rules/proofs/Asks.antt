@@ -186,13 +186,13 @@ module _ (r : List ℕ) (P S : ℕ) (on : Bool) (v : ℕ) (fresh : Fresh r P S o
   pub bounded : (side : Side) → Bounded r P S on v side
   bounded side hs ms a =
       let w = reached r P S on v hs in
-      let typed = typed-parts hs ms (a .0) in
-      let fair = fair-parts side hs ms (begin (created r P S on v)) (a .1 .0) in
+      let typed = typed-parts hs ms (a .0 .0) in
+      let fair = fair-parts side hs ms (begin (created r P S on v)) (a .0 .1 .0) in
       let notes = notesOf (other side) (w .trace) in
       let k = roomIn P S v on side (w .trace) in
       let x = roomIn P S v on (other side) (w .trace) in
-      let enough : cost (partyIn w side .step) k x ≤ ticks ms w + 0 = omega (arith, a .1 .1 .1 .1 .1, cost-le (partyIn w side .step) k x, room-is r P S on v fresh side hs (typed .0)) in
-      let start : Going P S v on side notes (ticks ms w + 0) w = record { quiet = still-duty (other side) (partyIn w (other side) .step) (a .1 .1 .0); calls = in-call (partyIn w side .step) (a .1 .1 .1 .0); left = enough; same = refl } in
-      let end = going-run P S v on (power-fits r P S on v fresh) (slot-fits r P S on v fresh) side ms w (typed .1) (fair .1) (a .1 .1 .1 .1 .0) (real-reached r P S on v fresh hs (typed .0)) (ready-reached r P S on v fresh side hs (typed .0) (fair .0)) notes 0 start in
+      let enough : cost (partyIn w side .step) k x ≤ ticks ms w + 0 = omega (arith, a .1, cost-le (partyIn w side .step) k x, room-is r P S on v fresh side hs (typed .0)) in
+      let start : Going P S v on side notes (ticks ms w + 0) w = record { quiet = still-duty (other side) (partyIn w (other side) .step) (a .0 .1 .1 .0); calls = in-call (partyIn w side .step) (a .0 .1 .1 .1 .0); left = enough; same = refl } in
+      let end = going-run P S v on (power-fits r P S on v fresh) (slot-fits r P S on v fresh) side ms w (typed .1) (fair .1) (a .0 .1 .1 .1 .1) (real-reached r P S on v fresh hs (typed .0)) (ready-reached r P S on v fresh side hs (typed .0) (fair .0)) notes 0 start in
       let last = subst (Going P S v on side notes 0) (sym (run-parts hs ms (begin (created r P S on v)))) end in
-      (room-is r P S on v fresh side (hs ++ ms) (a .0) ∙ cost-none _ _ _ (last .left), last .same)
+      (room-is r P S on v fresh side (hs ++ ms) (a .0 .0) ∙ cost-none _ _ _ (last .left), last .same)

@@ -100,6 +100,6 @@ module _ (r : List ℕ) (P S : ℕ) (on : Bool) (v : ℕ) (fresh : Fresh r P S o
   gets-all hs ms a =
       let u = reached r P S on v (hs ++ ms) in
       let b = bounded r P S on v fresh Recorder hs ms a in
-      let o = in-order r P S on v fresh (hs ++ ms) (a .0) in
+      let o = in-order r P S on v fresh (hs ++ ms) (a .0 .0) in
       let e : o .1 .0 ≡ [] = empty-list (o .1 .0) (o .1 .2 ∙ b .0) in
       sym (o .1 .1 ∙ ap (λ (x : List Note). u .trace .got ++ x) e ∙ append-nil (u .trace .got)) ∙ b .1

@@ -29,3 +29,4 @@ pub mod Bound
 pub mod Asks
 pub mod Ending
 pub mod Delivers
+pub mod Reaches

@@ -83,15 +83,16 @@ module _ (region : List ℕ) (power slot : ℕ) (notfull : Bool) (start : ℕ) w
   NotBoth = (hs : List Happening) → AllTyped hs → ((side : Side) → AllFair side hs (begin (created region power slot notfull start)))
       → partyIn (reached hs) Sender .step ≡ Asleep → partyIn (reached hs) Recorder .step ≡ Asleep → ⊥
 
-  -- T2: the other between calls or asleep and not moving, the party in a push or a pop or between calls and willing, and at
-  -- least 4 times its room, and 3, turns of its own ..
-  abbrev pub Alone : Side → (hs ms : List Happening) → Type 0
-  Alone side hs ms =
+  -- T2: the other between calls or asleep and not moving, the party in a push or a pop or between calls, and willing ..
+  abbrev pub Going : Side → (hs ms : List Happening) → Type 0
+  Going side hs ms =
       AllTyped (hs ++ ms)
       × (AllFair side (hs ++ ms) (begin (created region power slot notfull start))
-      × (Still (other side) (reached hs)
-      × ((inCall (partyIn (reached hs) side .step) ≡ true)
-      × (Willing side ms (reached hs) × (4 * room side (capacity power) (reached hs) + 3 ≤ ticks ms (reached hs))))))
+      × (Still (other side) (reached hs) × ((inCall (partyIn (reached hs) side .step) ≡ true) × Willing side ms (reached hs))))
+
+  -- .. for at least 4 times its room, and 3, turns of its own ..
+  abbrev pub Alone : Side → (hs ms : List Happening) → Type 0
+  Alone side hs ms = Going side hs ms × (4 * room side (capacity power) (reached hs) + 3 ≤ ticks ms (reached hs))
 
   -- .. no room is left, and not because the other did anything
   abbrev pub Bounded : Side → Type 0
@@ -101,6 +102,12 @@ module _ (region : List ℕ) (power slot : ℕ) (notfull : Bool) (start : ℕ) w
   -- so a recorder has got every note that was sent
   abbrev pub GetsAll : Type 0
   GetsAll = (hs ms : List Happening) → Alone Recorder hs ms → reached (hs ++ ms) .trace .got ≡ reached hs .trace .sent
+
+  -- and the bound is reached: one turn fewer, and a note is left
+  abbrev pub Tight : Type 0
+  Tight =
+      (hs : List Happening) × ((ms : List Happening) × (Going Recorder hs ms
+      × ((4 * room Recorder (capacity power) (reached hs) + 2 ≡ ticks ms (reached hs)) × (room Recorder (capacity power) (reached (hs ++ ms)) ≡ 1))))
 
   -- T4: once the other has closed or anyone has shut down, and the other is between calls or asleep and not moving, a call
   -- under way answers within 7 turns of its own, whatever its waits do and whatever it asks meanwhile
