@@ -83,7 +83,7 @@ asked-cost s u (suc k) x stayed (inl e) d = omega arith
 asked-cost s u (suc k) x looks (inl e) d = rw e (omega arith)
 asked-cost s u (suc k) x rests (inl e) d = rw e (omega arith)
 
-in-call : (s : Step) → inCall s ≡ true → Calls (phase s)
+pub in-call : (s : Step) → inCall s ≡ true → Calls (phase s)
 in-call Rest e = tt
 in-call Look e = tt
 in-call Copy e = tt

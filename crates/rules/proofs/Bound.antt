@@ -109,7 +109,7 @@ turn-cost (suc k) x z m r b n s next leads (acts move) c i j f d h =
 
 -- a turn changes its own party's notes alone
 module _ (p : Party) (payload buffer : List ℕ) (t : Trace) where
-  notes-kept : (side : Side) (n : ℕ) (s : Step) (a : Access) → Does side n s a → notesOf (other side) (traced a p payload buffer t) ≡ notesOf (other side) t
+  pub notes-kept : (side : Side) (n : ℕ) (s : Step) (a : Access) → Does side n s a → notesOf (other side) (traced a p payload buffer t) ≡ notesOf (other side) t
   notes-kept Sender n s a (nothing l) = refl
   notes-kept Sender n s a (looks l) = refl
   notes-kept Sender n s a (flags l) = refl

@@ -30,3 +30,5 @@ pub mod Asks
 pub mod Ending
 pub mod Delivers
 pub mod Reaches
+pub mod Sized
+pub mod Lasts

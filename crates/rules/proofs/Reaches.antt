@@ -3,7 +3,7 @@ use mathlib.Core.Path.{_≡_, refl, subst}
 use mathlib.Core.Bool.{Bool, true, false, _&&_}
 use mathlib.Core.List.{List, [], _∷_, _++_}
 use mathlib.Core.Logic.{inl}
-use Prim.Native.Nat.{ℕ, _+_, _*_, _^_, _<_, _≤_}
+use Prim.Native.Nat.{ℕ, _+_, _^_, _<_, _≤_}
 use native.Mathlib.Omega.{arith}
 use borrow.Author.Tests.{leb-true, ltb-true}
 use lib.Dec.{leb, ltb}
@@ -11,7 +11,7 @@ use lib.ListN.{length, replicate}
 use Rattle.types.specs.declared.Side.{Side}
 use Rattle.types.specs.declared.Side.the-variants.{Sender, Recorder}
 use Rattle.types.specs.declared.Answer.the-variants.{Done}
-use Rattle.types.specs.declared.Step.the-variants.{Look, Rest, Gate, Copy, Publish, Check}
+use Rattle.types.specs.declared.Step.the-variants.{Rest}
 use Rattle.types.specs.declared.Event.the-variants.{Turn, Failing, Spurious, TimeOut, Push, Pop, Close, Shutdown}
 use Rattle.types.specs.declared.Fault.the-variants.{Fine}
 use Rattle.layout.specs.Attach.{magicOk, versionOk, sizesOk, flagChecks, ringChecks, attachChecks, attachAnswer, attachReply, attachLeaves}

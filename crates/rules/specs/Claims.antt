@@ -22,7 +22,7 @@ use Rattle.rules.specs.Sides.{other}
 use Rattle.rules.specs.Turn.{turnSpec}
 use Rattle.rules.specs.Run.{Note, Trace, World, Happening, plays, partyIn, takes, happens, run, begin}
 use Rattle.rules.specs.Premises.{AllTyped, AllFair, Still, down, closedBit}
-use Rattle.rules.specs.Stretch.{ticks, AllOwn, Willing, inCall, notesOf}
+use Rattle.rules.specs.Stretch.{ticks, AllOwn, Willing, inCall, notesOf, Underway}
 
 -- how many notes wait: head − tail, in the region's bytes
 abbrev pub waiting : World → ℕ
@@ -102,6 +102,12 @@ module _ (region : List ℕ) (power slot : ℕ) (notfull : Bool) (start : ℕ) w
   -- so a recorder has got every note that was sent
   abbrev pub GetsAll : Type 0
   GetsAll = (hs ms : List Happening) → Alone Recorder hs ms → reached (hs ++ ms) .trace .got ≡ reached hs .trace .sent
+
+  -- willing stretches of every length exist from every state of the premises: the party attached and not closed
+  abbrev pub Lasts : Side → Type 0
+  Lasts side = (hs : List Happening) → AllTyped hs → AllFair side hs (begin (created region power slot notfull start))
+      → Still (other side) (reached hs) → inCall (partyIn (reached hs) side .step) ≡ true → partyIn (reached hs) side .own .attached ≡ true → partyIn (reached hs) side .closed ≡ false → Underway side (reached hs)
+      → (n : ℕ) → (ms : List Happening) × (Going side hs ms × (n ≤ ticks ms (reached hs)))
 
   -- and the bound is reached: one turn fewer, and a note is left
   abbrev pub Tight : Type 0

@@ -2,7 +2,7 @@
 use mathlib.Core.Path.{_≡_}
 use mathlib.Core.Bool.{Bool, true, false, _&&_}
 use mathlib.Core.List.{List, [], _∷_, _++_}
-use Prim.Native.Nat.{ℕ, _+_, _≤_}
+use Prim.Native.Nat.{ℕ, _+_, _^_, _<_, _≤_}
 use lib.ListN.{length}
 use Rattle.types.specs.Pick.{pick}
 use Rattle.types.specs.declared.Side.{Side}
@@ -16,6 +16,7 @@ use Rattle.types.specs.declared.Stance.the-variants.{Resting, Sleeping, Copying
 use Rattle.types.specs.declared.Event.the-variants.{Turn, Failing, Spurious, TimeOut, Push, Pop, Close, Shutdown}
 use Rattle.rules.specs.Sides.{other}
 use Rattle.rules.specs.Take.{stanceOf}
+use Rattle.rules.specs.Premises.{rung}
 use Rattle.rules.specs.Run.{Note, Trace, World, Happening, attaches, plays, partyIn, takes, happens}
 
 -- A stretch of one party's own doings. A turn counts where it answers neither 20 nor 253; a begin is no turn
@@ -112,3 +113,58 @@ inCall (ShutWakeNf c e) = false
 abbrev pub notesOf : Side → Trace → List Note
 notesOf Sender t = t .sent
 notesOf Recorder t = t .got
+
+-- a pop that has yet to copy, and a party that holds an epoch
+abbrev pub beforeCopy : Step → Bool
+beforeCopy Rest = false
+beforeCopy Look = true
+beforeCopy Copy = true
+beforeCopy (Publish l t) = false
+beforeCopy (Check l t) = false
+beforeCopy (Raise l t) = false
+beforeCopy (Wake l t) = false
+beforeCopy Gate = true
+beforeCopy Epoch = true
+beforeCopy (Again e) = true
+beforeCopy (GateAgain e) = true
+beforeCopy (Wait e) = true
+beforeCopy Asleep = true
+beforeCopy CloseSet = false
+beforeCopy CloseRaise = false
+beforeCopy CloseWake = false
+beforeCopy (ShutSet c) = false
+beforeCopy (ShutRaiseNe c) = false
+beforeCopy (ShutWakeNe c) = false
+beforeCopy (ShutRaiseNf c e) = false
+beforeCopy (ShutWakeNf c e) = false
+
+abbrev pub holdsEpoch : Step → Bool
+holdsEpoch Rest = false
+holdsEpoch Look = false
+holdsEpoch Copy = false
+holdsEpoch (Publish l t) = false
+holdsEpoch (Check l t) = false
+holdsEpoch (Raise l t) = false
+holdsEpoch (Wake l t) = false
+holdsEpoch Gate = false
+holdsEpoch Epoch = false
+holdsEpoch (Again e) = true
+holdsEpoch (GateAgain e) = true
+holdsEpoch (Wait e) = true
+holdsEpoch Asleep = false
+holdsEpoch CloseSet = false
+holdsEpoch CloseRaise = false
+holdsEpoch CloseWake = false
+holdsEpoch (ShutSet c) = false
+holdsEpoch (ShutRaiseNe c) = false
+holdsEpoch (ShutWakeNe c) = false
+holdsEpoch (ShutRaiseNf c e) = false
+holdsEpoch (ShutWakeNf c e) = false
+
+-- the call under way meets the premises: its buffer is big enough for the note that it will come to, and its bell has not
+-- come round
+abbrev pub Underway : Side → World → Type 0
+Underway Sender w = holdsEpoch (partyIn w Sender .step) ≡ true → rung Sender w < 2 ^ 32
+Underway Recorder w =
+    (holdsEpoch (partyIn w Recorder .step) ≡ true → rung Recorder w < 2 ^ 32)
+    × (beforeCopy (partyIn w Recorder .step) ≡ true → (n : Note) (rest : List Note) → w .trace .sent ≡ w .trace .got ++ (n ∷ rest) → length (n .body) ≤ partyIn w Recorder .length)
