@@ -1,5 +1,6 @@
 -- Every word that a party reads, and every slot, after an access: one row an access.
 use mathlib.Core.Path.{_≡_, refl}
+use mathlib.Core.Bool.{Bool, true, false}
 use mathlib.Core.List.{List}
 use mathlib.Core.Logic.{inr}
 use Prim.Native.Nat.{ℕ, _+_, _^_, _<_, _≤_}
@@ -9,6 +10,7 @@ use lib.ListN.{length}
 use Rattle.words.specs.Bytes.{part}
 use Rattle.words.specs.Le.{leAt, putLe}
 use Rattle.words.specs.Wrap.{next}
+use Rattle.words.proofs.Wrapped.{plus-lt}
 use Rattle.words.proofs.Sets.{Apart, part-ext}
 use Rattle.words.proofs.Laws.{putLe-other, length-putLe}
 use Rattle.types.specs.Pick.{pick}
@@ -68,6 +70,23 @@ bellBy (RaiseBell a) b c = pick (sameBell a b) (next 32 c) c
 bellBy (SetFlag m) b c = c
 bellBy (WaitBell a e) b c = c
 bellBy (WakeBell a n) b c = c
+
+pub bell-by-small : (a : Access) (b : Bell) (c : ℕ) → c < 2 ^ 32 → bellBy a b c < 2 ^ 32
+bell-by-small None b c h = h
+bell-by-small (LoadCounter s) b c h = h
+bell-by-small LoadFlags b c h = h
+bell-by-small (LoadBell a) b c h = h
+bell-by-small (WriteSlot n) b c h = h
+bell-by-small (ReadSlot n) b c h = h
+bell-by-small (StoreCounter s n) b c h = h
+bell-by-small (RaiseBell a) b c h = by (sameBell a b)
+  where
+    by : (t : Bool) → pick t (next 32 c) c < 2 ^ 32
+    by true = plus-lt 32 c 1
+    by false = h
+bell-by-small (SetFlag m) b c h = h
+bell-by-small (WaitBell a e) b c h = h
+bell-by-small (WakeBell a n) b c h = h
 
 -- a word that no access stores
 apart-all : (i w : ℕ) → T (clear (StoreCounter Sender 0) i w) → T (clear (StoreCounter Recorder 0) i w) → T (clear (RaiseBell NotEmpty) i w) → T (clear (RaiseBell NotFull) i w) → T (clear (SetFlag (Shutdown)) i w)

@@ -71,7 +71,7 @@ moves-off s u a b e =
     let z : _≡_ {A = ℕ} 0 1 = cc in omega arith
 
 -- no room stays no room
-own-room-none : (s : Step) → ownRoom s 0 ≡ 0
+pub own-room-none : (s : Step) → ownRoom s 0 ≡ 0
 own-room-none Rest = refl
 own-room-none Look = refl
 own-room-none Copy = refl

@@ -153,7 +153,7 @@ module _ (P S v : ℕ) (on : Bool) (power-ok : powerOk P ≡ true) (slot-ok : sl
   room-own side x z m rg b s next idles y = tt
   room-own side x z m rg b s next (finds h) y = h
   room-own side x z m rg b s next (blocks h q) y = tt
-  room-own side x z m rg b s next (gives-up h) y = tt
+  room-own side x z m rg b s next (gives-up h q) y = tt
   room-own side x z m rg b s next copies y = rw (copy-room side) y
   room-own side x z m rg b s next spills y = tt
   room-own side x z m rg b s next (tells h) y = tt
@@ -202,7 +202,7 @@ module _ (P S v : ℕ) (on : Bool) (power-ok : powerOk P ≡ true) (slot-ok : sl
   hand-own side k x z m rg b s next at u idles y = in-hand-none P S v on side (phase next) (left (nextAt s side (p .counter))) (told (nextAt s side (p .counter))) tt
   hand-own side k x z m rg b s next at u (finds h) y = in-hand-none P S v on side (phase next) (left (nextAt s side (p .counter))) (told (nextAt s side (p .counter))) tt
   hand-own side k x z m rg b s next at u (blocks h q) y = in-hand-none P S v on side (phase next) (left (nextAt s side (p .counter))) (told (nextAt s side (p .counter))) tt
-  hand-own side k x z m rg b s next at u (gives-up h) y = in-hand-none P S v on side (phase next) (left (nextAt s side (p .counter))) (told (nextAt s side (p .counter))) tt
+  hand-own side k x z m rg b s next at u (gives-up h q) y = in-hand-none P S v on side (phase next) (left (nextAt s side (p .counter))) (told (nextAt s side (p .counter))) tt
   hand-own side k x z m rg b s next at u copies y = absurd (u refl)
   hand-own side k x z m rg b s next at u spills y = absurd (u refl)
   hand-own side k x z m rg b s next at u (tells {l = l} {t = g} h) y = told-hand side l g at y

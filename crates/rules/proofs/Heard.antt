@@ -261,7 +261,7 @@ pub theirs : (side : Side) (k′ x : ℕ) (zz m r : Bool) (b : ℕ) (s next : St
 theirs side k′ x zz m r b s next idles t ok ph n z z′ f l y = rw (f refl) y
 theirs side k′ x zz m r b s next (finds h) t ok ph n z z′ f l y = rw (f refl) (calm ph n x z _ y)
 theirs side k′ x zz m r b s next (blocks h q) t ok ph n z z′ f l y = rw (f refl) (calm ph n x z _ y)
-theirs side k′ x zz m r b s next (gives-up h) t ok ph n z z′ f l y = rw (f refl) (calm ph n x z _ y)
+theirs side k′ x zz m r b s next (gives-up h q) t ok ph n z z′ f l y = rw (f refl) (calm ph n x z _ y)
 theirs side k′ x zz m r b s next copies t ok ph n z z′ f l y = rw (f refl) (calm ph n x z _ y)
 theirs side k′ x zz m r b s next spills t ok ph n z z′ f l y = rw (f refl) (calm ph n x z _ y)
 theirs side k′ x zz m r b s next (tells h) t ok ph n z z′ f l y = rw (f refl) (stored ph n x z y)

@@ -49,7 +49,7 @@ before-on : (k x : ℕ) (z m r : Bool) (b : ℕ) (s next : Step) → Leads k x z
 before-on k x z m r b s next idles e = absurd (let u : _≡_ {A = ℕ} 0 1 = cc in omega arith)
 before-on k x z m r b s next (finds h) e = refl
 before-on k x z m r b s next (blocks h q) e = refl
-before-on k x z m r b s next (gives-up h) e = absurd (let u : _≡_ {A = ℕ} 0 1 = cc in omega arith)
+before-on k x z m r b s next (gives-up h q) e = absurd (let u : _≡_ {A = ℕ} 0 1 = cc in omega arith)
 before-on k x z m r b s next copies e = absurd (let u : _≡_ {A = ℕ} 0 1 = cc in omega arith)
 before-on k x z m r b s next spills e = absurd (let u : _≡_ {A = ℕ} 0 1 = cc in omega arith)
 before-on k x z m r b s next (tells h) e = absurd (let u : _≡_ {A = ℕ} 0 1 = cc in omega arith)
@@ -84,7 +84,7 @@ epoch-on : (k x : ℕ) (z m r : Bool) (b : ℕ) (s next : Step) → Leads k x z 
 epoch-on k x z m r b s next idles e = absurd (let u : _≡_ {A = ℕ} 0 1 = cc in omega arith)
 epoch-on k x z m r b s next (finds h) e = absurd (let u : _≡_ {A = ℕ} 0 1 = cc in omega arith)
 epoch-on k x z m r b s next (blocks h q) e = absurd (let u : _≡_ {A = ℕ} 0 1 = cc in omega arith)
-epoch-on k x z m r b s next (gives-up h) e = absurd (let u : _≡_ {A = ℕ} 0 1 = cc in omega arith)
+epoch-on k x z m r b s next (gives-up h q) e = absurd (let u : _≡_ {A = ℕ} 0 1 = cc in omega arith)
 epoch-on k x z m r b s next copies e = absurd (let u : _≡_ {A = ℕ} 0 1 = cc in omega arith)
 epoch-on k x z m r b s next spills e = absurd (let u : _≡_ {A = ℕ} 0 1 = cc in omega arith)
 epoch-on k x z m r b s next (tells h) e = absurd (let u : _≡_ {A = ℕ} 0 1 = cc in omega arith)

@@ -37,7 +37,7 @@ pub data Leads (k x : ℕ) (z m r : Bool) (b : ℕ) : Step → Step → Type 0 w
   idles : Leads k x z m r b Rest Rest
   finds : 0 < k → Leads k x z m r b Look Copy
   blocks : k ≡ 0 → m ≡ true → Leads k x z m r b Look Gate
-  gives-up : k ≡ 0 → Leads k x z m r b Look Rest
+  gives-up : k ≡ 0 → m ≡ false → Leads k x z m r b Look Rest
   copies : {l t : ℕ} → Leads k x z m r b Copy (Publish l t)
   spills : Leads k x z m r b Copy Rest
   tells : {l t : ℕ} → r ≡ true → Leads k x z m r b (Publish l t) (Check l t)
@@ -74,7 +74,7 @@ module _ (k x : ℕ) (z m r : Bool) (b : ℕ) where
   look-leads : (side : Side) (j : ℕ) → k ≡ j → (n : Bool) → m ≡ n → L Look (stepAfter (roomMove (asRoom j) (stuckMove n side)) Look)
   look-leads side (suc j) q n h = finds (omega arith)
   look-leads side zero q true h = blocks q h
-  look-leads side zero q false h = gives-up q
+  look-leads side zero q false h = gives-up q h
 
   again-leads : (e j : ℕ) → k ≡ j → L (Again e) (stepAfter (roomMove (asRoom j) (To (GateAgain e))) (Again e))
   again-leads e (suc j) q = finds-again (omega arith)

@@ -32,3 +32,5 @@ pub mod Delivers
 pub mod Reaches
 pub mod Sized
 pub mod Lasts
+pub mod Sleeps
+pub mod Begins

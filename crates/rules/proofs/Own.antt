@@ -45,7 +45,7 @@ pub own : (k x : ℕ) (z m r : Bool) (b : ℕ) (s next : Step) → Leads k x z m
 own k x z m r b s next idles n d p n′ k′ z′ f y = tt
 own k x z m r b s next (finds h) n d p n′ k′ z′ f y = tt
 own k x z m r b s next (blocks h q) n d p n′ k′ z′ f y = tt
-own k x z m r b s next (gives-up h) n d p n′ k′ z′ f y = tt
+own k x z m r b s next (gives-up h q) n d p n′ k′ z′ f y = tt
 own k x z m r b s next copies n d p n′ k′ z′ f y = tt
 own k x z m r b s next spills n d p n′ k′ z′ f y = tt
 own k x z m r b s next (tells h) n d p n′ k′ z′ f y = tt
@@ -97,8 +97,8 @@ tries k x z true r b s next (finds h) y = y
 tries k x z false r b s next (finds h) y = tt
 tries k x z true r b s next (blocks h q) y = y
 tries k x z false r b s next (blocks h q) y = absurd (let u : _≡_ {A = ℕ} 0 1 = cc in omega arith)
-tries k x z true r b s next (gives-up h) y = y
-tries k x z false r b s next (gives-up h) y = tt
+tries k x z true r b s next (gives-up h q) y = y
+tries k x z false r b s next (gives-up h q) y = tt
 tries k x z true r b s next copies y = y
 tries k x z false r b s next copies y = tt
 tries k x z true r b s next spills y = y
@@ -292,7 +292,7 @@ pub fall : (k x : ℕ) (z m r : Bool) (b : ℕ) (s next : Step) → Leads (suc k
 fall k x z m r b s next idles c i j f d = absurd (i refl)
 fall k x z m r b s next (finds h) c i j f d = omega arith
 fall k x z m r b s next (blocks h q) c i j f d = absurd (omega arith)
-fall k x z m r b s next (gives-up h) c i j f d = absurd (omega arith)
+fall k x z m r b s next (gives-up h q) c i j f d = absurd (omega arith)
 fall k x z m r b s next copies c i j f d = omega arith
 fall k x z m r b s next spills c i j f d = absurd (f refl refl)
 fall k x z m r b s next (tells {l = l} {t = t} h) c i j f d = stored-cost l t k x
@@ -327,7 +327,7 @@ pub calls-on : (k x : ℕ) (z m r : Bool) (b : ℕ) (s next : Step) → Leads k 
 calls-on k x z m r b s next idles c = tt
 calls-on k x z m r b s next (finds h) c = tt
 calls-on k x z m r b s next (blocks h q) c = tt
-calls-on k x z m r b s next (gives-up h) c = tt
+calls-on k x z m r b s next (gives-up h q) c = tt
 calls-on k x z m r b s next copies c = tt
 calls-on k x z m r b s next spills c = tt
 calls-on k x z m r b s next (tells h) c = tt
@@ -432,7 +432,7 @@ pub nearer : (k x : ℕ) (m r : Bool) (b : ℕ) (s next : Step) → Leads k x tr
 nearer k x m r b s next idles d = omega arith
 nearer k x m r b s next (finds h) d = omega arith
 nearer k x m r b s next (blocks h q) d = omega arith
-nearer k x m r b s next (gives-up h) d = omega arith
+nearer k x m r b s next (gives-up h q) d = omega arith
 nearer k x m r b s next copies d = omega arith
 nearer k x m r b s next spills d = omega arith
 nearer k x m r b s next (tells h) d = omega arith

@@ -170,6 +170,7 @@ module _ (P S v : ℕ) (on : Bool) where
     pub room : HasRoom (phase (p .step)) (roomIn side t)
     pub hand : InHand side (phase (p .step)) r t
     pub tag-small : p .tag < 2 ^ 16
+    pub bell-small : leAt 4 r (bellAt (sleepBell side)) < 2 ^ 32
 
   pub record Real (w : World) : Type 0 where
     pub fixed : Fixed (w .region)

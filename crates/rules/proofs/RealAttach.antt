@@ -155,6 +155,7 @@ module _ (P S v : ℕ) (on : Bool) (power-ok : powerOk P ≡ true) (slot-ok : sl
         room = h .room;
         hand = hand-left (other side) (phase (partyIn w (other side) .step)) (h .hand);
         tag-small = h .tag-small;
+        bell-small = rw (bells (other side)) (h .bell-small);
       }
 
   module _ (accepted : eqb (number (attachAnswer r side)) 0 ≡ true) where
@@ -178,6 +179,7 @@ module _ (P S v : ℕ) (on : Bool) (power-ok : powerOk P ≡ true) (slot-ok : sl
           room = tt;
           hand = in-hand-none P S v on side resting left (w .trace) tt;
           tag-small = omega arith;
+          bell-small = rw (bells side) (h .bell-small);
         }
 
   abbrev pub attachWorld : World

@@ -208,4 +208,5 @@ module _ (P S v : ℕ) (on : Bool) where
             room = idle-room (q .step) _ (b .idle);
             hand = in-hand-none P S v on side (phase (q .step)) (w .region) (w .trace) (idle-free (q .step) (b .idle));
             tag-small = b .tag (h .tag-small);
+            bell-small = h .bell-small;
           }

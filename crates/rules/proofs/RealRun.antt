@@ -2,37 +2,35 @@
 use mathlib.Core.Path.{_≡_, refl, sym, ap, _∙_}
 use mathlib.Core.Bool.{Bool, true, false}
 use mathlib.Core.List.{List, [], _∷_, _++_}
-use Prim.Native.Nat.{ℕ, _+_, _-_, _^_, _<_, _≤_}
+use Prim.Native.Nat.{ℕ, _+_, _-_, _<_}
 use native.Mathlib.Omega.{arith}
 use borrow.Author.Tests.{eqb-true}
-use lib.ListN.{length, take, drop, length-drop, take-append-drop}
+use lib.ListN.{length, drop, length-drop, take-append-drop}
 use Rattle.words.specs.Le.{leAt}
 use Rattle.words.specs.Wrap.{plus}
 use Rattle.words.proofs.Wrapped.{plus-zero}
 use Rattle.types.specs.declared.Side.{Side}
 use Rattle.types.specs.declared.Side.the-variants.{Sender, Recorder}
 use Rattle.types.specs.declared.Fault.the-variants.{Fine, Error}
-use Rattle.types.specs.declared.Event.{Event}
 use Rattle.types.specs.declared.Event.the-variants.{Turn, Failing, Spurious, TimeOut, Push, Pop, Close, Shutdown}
-use Rattle.types.specs.declared.Answer.the-variants.{Done}
 use Rattle.layout.specs.Limits.{powerOk, slotOk, capacity, ringBytes, totalBytes}
 use Rattle.layout.specs.Flags.{worth, notFullOn, reservedFrom, bitOn, attachMark, closeMark}
-use Rattle.layout.specs.Header.{flagsAt, counterAt}
-use Rattle.layout.specs.Create.{createAnswer, firstFlags, created}
+use Rattle.layout.specs.Header.{flagsAt, counterAt, bellAt}
+use Rattle.layout.specs.Create.{firstFlags, created}
 use Rattle.layout.proofs.SizeLaws.{capacity-room}
-use Rattle.layout.proofs.Headed.{Fitting, length-headed, headed-power, headed-slot, headed-flags, headed-counter}
+use Rattle.layout.proofs.Headed.{Fitting, length-headed, headed-power, headed-slot, headed-flags, headed-counter, headed-bell}
 use Rattle.layout.proofs.Accepted.{tests, fits, first-small}
+use Rattle.rules.specs.Sides.{sleepBell}
 use Rattle.rules.specs.Calls.{pushSpec, popSpec, closeSpec, shutSpec, spuriousSpec, timeoutSpec}
 use Rattle.rules.specs.Bench.{settled, played, playedLeaves}
 use Rattle.rules.specs.Run.{Note, World, Happening, attaches, plays, partyIn, happens, run, begin}
 use Rattle.rules.specs.Premises.{Typed, AllTyped}
 use Rattle.rules.specs.Claims.{waiting, Fresh, reached, InOrder}
 use Rattle.rules.proofs.Rooms.{used-is}
-use Rattle.rules.proofs.Hands.{in-hand-none}
 use Rattle.rules.proofs.RealTurn.{real-turned}
 use Rattle.rules.proofs.RealCalls.{push-changes, pop-changes, close-changes, shut-changes, spurious-changes, timeout-changes, real-called}
 use Rattle.rules.proofs.RealAttach.{real-attached}
-use Rattle.rules.proofs.Real.{resting, Side-good, Real}
+use Rattle.rules.proofs.Real.{Side-good, Real}
 
 module _ (P S v : ℕ) (on : Bool) (power-ok : powerOk P ≡ true) (slot-ok : slotOk S ≡ true) where
   pub real-happens : (h : Happening) (w : World) → Typed h → Real P S v on w → Real P S v on (happens h w)
@@ -94,6 +92,10 @@ module _ (r : List ℕ) (P S : ℕ) (on : Bool) (v : ℕ) (fresh : Fresh r P S o
   unfolding created
   counter-starts side = headed-counter r (ringBytes P S) P S (firstFlags on) v made side ∙ sym (plus-zero 64 v (fresh .1))
 
+  bell-starts : (side : Side) → leAt 4 region (bellAt (sleepBell side)) ≡ 0
+  unfolding created
+  bell-starts side = headed-bell r (ringBytes P S) P S (firstFlags on) v made (sleepBell side)
+
   side-starts : (side : Side) → Side-good P S v on side region (partyIn (begin region) side) (begin region .trace)
   side-starts Sender =
       record {
@@ -109,6 +111,7 @@ module _ (r : List ℕ) (P S : ℕ) (on : Bool) (v : ℕ) (fresh : Fresh r P S o
         room = tt;
         hand = tt;
         tag-small = omega arith;
+        bell-small = rw (bell-starts Sender) (omega arith);
       }
   side-starts Recorder =
       record {
@@ -124,6 +127,7 @@ module _ (r : List ℕ) (P S : ℕ) (on : Bool) (v : ℕ) (fresh : Fresh r P S o
         room = tt;
         hand = tt;
         tag-small = omega arith;
+        bell-small = rw (bell-starts Recorder) (omega arith);
       }
 
   pub real-start : Real P S v on (begin region)

@@ -37,12 +37,13 @@ use Rattle.rules.specs.Run.{Note, Trace, World, partyIn, takes, traced}
 use Rattle.rules.proofs.Rooms.{asRoom, sender-sees, recorder-sees, sender-checks, recorder-checks}
 use Rattle.rules.proofs.Leads.{stopAt, Leads, Tells, leads}
 use Rattle.rules.proofs.Does.{Does, does}
-use Rattle.rules.proofs.Kept.{fixed-kept, counts-own, counts-other, word-own, word-other}
+use Rattle.rules.proofs.After.{bell-after, bell-by-small}
+use Rattle.rules.proofs.Kept.{header-in, fixed-kept, counts-own, counts-other, word-own, word-other}
 use Rattle.rules.proofs.Seats.{moved, Roused, roused, roused-elim, seated-own, seated-other, since-own, since-other}
 use Rattle.rules.proofs.Hands.{in-hand-none, queue-kept, room-own, room-other, hand-own, hand-other}
 use Rattle.rules.proofs.Copies.{copy-written, copy-read}
 use Rattle.rules.proofs.Taken.{turnWorld, turn-refused, seat-own, seat-other, turn-taken, attached-here, length-ok, lent-ok}
-use Rattle.rules.proofs.Real.{copying, looking, phase, countOf, rungOf, HasRoom, Since, sizes, roomIn, nth, InHand, Fixed, Queue, Side-good, Real}
+use Rattle.rules.proofs.Real.{copying, looking, phase, countOf, rungOf, HasRoom, Since, sizes, roomIn, nth, InHand, Queue, Side-good, Real}
 
 -- what holds of one side and of the other holds of both
 pub both-sides : (side : Side) (F : Side → Type 0) → F side → F (other side) → (τ : Side) → F τ
@@ -228,6 +229,10 @@ module _ (P S v : ℕ) (on : Bool) (power-ok : powerOk P ≡ true) (slot-ok : sl
             (copy-hand side (p .own) (p .counter) value own-is counter-is (ap (valueOf r (p .own)) (access-is ∙ ap (λ (s : Step). nextAt s side (p .counter)) q)) (λ e. payload-in e q)
             (λ e. popped side (p .step) e q (lent-ok w side payload lent fault g)) (subst (λ (s : Step). HasRoom (phase s) (roomIn P S v on side t)) q (mine .room)) _ refl)
 
+    -- a bell stays a number of 32 bits
+    bell-left : (τ : Side) → leAt 4 r (bellAt (sleepBell τ)) < 2 ^ 32 → leAt 4 left (bellAt (sleepBell τ)) < 2 ^ 32
+    bell-left τ h = rw (bell-after r (p .own) (p .tag) payload (header-in P S v on r p payload (real .fixed)) (sleepBell τ) a) (bell-by-small a (sleepBell τ) (leAt 4 r (bellAt (sleepBell τ))) h)
+
     own-after : Side-good P S v on side left (moved p (p .step) next-step) told
     own-after =
         record {
@@ -240,6 +245,7 @@ module _ (P S v : ℕ) (on : Bool) (power-ok : powerOk P ≡ true) (slot-ok : sl
           room = room-own P S v on power-ok slot-ok r p payload (real .fixed) t buffer (real .queue) side _ _ _ _ _ (p .step) next-step leads-here (mine .room);
           hand = hand-after;
           tag-small = mine .tag-small;
+          bell-small = bell-left side (mine .bell-small);
         }
 
     abbrev q : Party
@@ -261,6 +267,7 @@ module _ (P S v : ℕ) (on : Bool) (power-ok : powerOk P ≡ true) (slot-ok : sl
               (hand-other P S v on power-ok slot-ok r p payload (real .fixed) t buffer (real .queue) side (p .step) a (phase (q .step)) d (theirs .room) (theirs .hand))
               (λ z. in-hand-none P S v on (other side) looking left told tt);
           tag-small = rw e (theirs .tag-small);
+          bell-small = bell-left (other side) (theirs .bell-small);
         }
 
     woken-tag : (q : Party) (x : Woke) → wakened (other side) q x .tag ≡ q .tag

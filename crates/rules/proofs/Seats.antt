@@ -169,7 +169,7 @@ module _ (P S v : ℕ) (on : Bool) (r : List ℕ) (p : Party) (payload : List �
   since-own side k x z m rg s next idles y = tt
   since-own side k x z m rg s next (finds h) y = tt
   since-own side k x z m rg s next (blocks h q) y = tt
-  since-own side k x z m rg s next (gives-up h) y = tt
+  since-own side k x z m rg s next (gives-up h q) y = tt
   since-own side k x z m rg s next copies y = tt
   since-own side k x z m rg s next spills y = tt
   since-own side k x z m rg s next (tells h) y = tt

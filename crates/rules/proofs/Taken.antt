@@ -34,7 +34,7 @@ turnWorld w side payload lent fault =
       trace = turnTraced w side payload lent fault;
     }
 
-reseated : (side : Side) (b : Bench) → seat (seat b side (partyOf b side)) (other side) (wakened (other side) (partyOf b (other side)) Nobody) ≡ b
+pub reseated : (side : Side) (b : Bench) → seat (seat b side (partyOf b side)) (other side) (wakened (other side) (partyOf b (other side)) Nobody) ≡ b
 unfolding wakened
 reseated Sender b = refl
 reseated Recorder b = refl

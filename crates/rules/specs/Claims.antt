@@ -1,6 +1,6 @@
 -- What is claimed of every run: demand 3 in document 01's words. The proofs are in proofs/.
 use mathlib.Core.Path.{_≡_}
-use mathlib.Core.Bool.{Bool, true, false, _||_}
+use mathlib.Core.Bool.{Bool, true, false, not, _&&_, _||_}
 use mathlib.Core.List.{List, [], _∷_, _++_}
 use Prim.Native.Nat.{ℕ, _+_, _-_, _*_, _^_, _<_, _≤_}
 use lib.ListN.{length, take}
@@ -11,18 +11,20 @@ use Rattle.types.specs.declared.Side.the-variants.{Sender, Recorder}
 use Rattle.types.specs.declared.Fault.{Fault}
 use Rattle.types.specs.declared.Fault.the-variants.{Fine, Error}
 use Rattle.types.specs.declared.Step.{Step}
-use Rattle.types.specs.declared.Step.the-variants.{Rest, Publish, Check, Wake, Asleep}
+use Rattle.types.specs.declared.Step.the-variants.{Rest, Look, Publish, Check, Wake, Asleep, CloseSet, ShutSet}
 use Rattle.types.specs.declared.Event.{Event}
 use Rattle.types.specs.declared.Event.the-variants.{Turn, Failing}
-use Rattle.types.specs.declared.Answer.the-variants.{Done}
-use Rattle.layout.specs.Limits.{capacity}
+use Rattle.types.specs.declared.Answer.the-variants.{Done, Begun, Nothing}
+use Rattle.layout.specs.Limits.{capacity, payloadCapacity}
 use Rattle.layout.specs.Header.{counterAt}
 use Rattle.layout.specs.Create.{createAnswer, created}
 use Rattle.rules.specs.Sides.{other}
+use Rattle.types.specs.declared.Party.{Party}
+use Rattle.rules.specs.Calls.{sound, at, named, pushSpec, popSpec, closeSpec, shutSpec}
 use Rattle.rules.specs.Turn.{turnSpec}
 use Rattle.rules.specs.Run.{Note, Trace, World, Happening, plays, partyIn, takes, happens, run, begin}
 use Rattle.rules.specs.Premises.{AllTyped, AllFair, Still, down, closedBit}
-use Rattle.rules.specs.Stretch.{ticks, AllOwn, Willing, inCall, notesOf, Underway}
+use Rattle.rules.specs.Stretch.{ticks, AllOwn, Willing, inCall, notesOf, Underway, inWait, Turns}
 
 -- how many notes wait: head − tail, in the region's bytes
 abbrev pub waiting : World → ℕ
@@ -48,6 +50,23 @@ pub data Delivering : Step → Type 0 where
 abbrev pub Carries : (length tag : ℕ) → Trace → Type 0
 Carries l t trace =
     (before : List Note) × ((n : Note) × ((trace .got ≡ before ++ (n ∷ [])) × ((n .tag ≡ t) × ((length (n .body) ≡ l) × (take l (trace .buffer) ≡ n .body)))))
+
+-- T8: asking is taken. A party at rest, with a sound record (attached, of that side, its sizes and length within the limits),
+-- is begun: a push that is not closed, not 19 and not 18; a pop and a close that are not closed; a shutdown always
+abbrev pub PushBegins : Party → Type 0
+PushBegins p = sound Sender p ≡ true → p .step ≡ Rest → p .closed ≡ false → (blocking : Bool) (tag length : ℕ)
+    → (blocking && not (p .own .notfull)) ≡ false → length ≤ payloadCapacity (p .own .slot)
+    → pushSpec p blocking tag length ≡ record { party = named blocking tag length p; answer = Begun }
+
+abbrev pub PopBegins : Party → Type 0
+PopBegins p = sound Recorder p ≡ true → p .step ≡ Rest → p .closed ≡ false → (blocking : Bool) (length : ℕ)
+    → popSpec p blocking length ≡ record { party = named blocking 0 length p; answer = Begun }
+
+abbrev pub CloseBegins : Side → Party → Type 0
+CloseBegins side p = sound side p ≡ true → p .step ≡ Rest → p .closed ≡ false → closeSpec side p ≡ record { party = at CloseSet p; answer = Begun }
+
+abbrev pub ShutBegins : Side → Party → Type 0
+ShutBegins side p = sound side p ≡ true → p .step ≡ Rest → shutSpec side p ≡ record { party = at (ShutSet false) p; answer = Begun }
 
 -- the claims, for a ring of any sizes that create accepts, either option, any start value, over any region
 module _ (region : List ℕ) (power slot : ℕ) (notfull : Bool) (start : ℕ) where
@@ -122,3 +141,23 @@ module _ (region : List ℕ) (power slot : ℕ) (notfull : Bool) (start : ℕ) w
       → Still (other side) (reached hs) → (down (reached hs) || closedBit (other side) (reached hs)) ≡ true → AllOwn side ms
       → 7 ≤ ticks ms (reached hs)
       → (first : List Happening) × ((rest : List Happening) × ((ms ≡ first ++ rest) × ((ticks first (reached hs) ≤ 7) × (partyIn (reached (hs ++ first)) side .step ≡ Rest))))
+
+  -- T9: a party alone in a blocking call with no room, nobody closed or shut down, no wait failing, is asleep within 9 turns of
+  -- its own, and within 6 of its look ..
+  abbrev pub Sleeps : Side → Type 0
+  Sleeps side = (hs ms : List Happening) → AllTyped hs
+      → room side (capacity power) (reached hs) ≡ 0 → down (reached hs) ≡ false → closedBit (other side) (reached hs) ≡ false
+      → partyIn (reached hs) side .blocking ≡ true → inWait (partyIn (reached hs) side .step) ≡ true → Turns side ms
+      → 9 ≤ ticks ms (reached hs)
+      → (first : List Happening) × ((rest : List Happening) × ((ms ≡ first ++ rest)
+      × ((ticks first (reached hs) ≤ 9) × ((partyIn (reached hs) side .step ≡ Look → ticks first (reached hs) ≤ 6) × (partyIn (reached (hs ++ first)) side .step ≡ Asleep)))))
+
+  -- .. and asleep, its turns change nothing, and answer 253 where they are not refused
+  abbrev pub Dreams : Side → Type 0
+  Dreams side = (hs : List Happening) (payload lent : List ℕ) (fault : Fault) → partyIn (reached hs) side .step ≡ Asleep
+      → (happens (plays (turnOf side fault) payload lent) (reached hs) ≡ reached hs)
+      × (takes (reached hs) side payload lent fault ≡ true → turnSpec side (reached hs .region) (partyIn (reached hs) side) payload lent fault .answer ≡ Nothing)
+
+  -- T8, on a run: whoever is attached has a sound record
+  abbrev pub Sound : Side → Type 0
+  Sound side = (hs : List Happening) → AllTyped hs → partyIn (reached hs) side .own .attached ≡ true → sound side (partyIn (reached hs) side) ≡ true

@@ -168,3 +168,40 @@ Underway Sender w = holdsEpoch (partyIn w Sender .step) ≡ true → rung Sender
 Underway Recorder w =
     (holdsEpoch (partyIn w Recorder .step) ≡ true → rung Recorder w < 2 ^ 32)
     × (beforeCopy (partyIn w Recorder .step) ≡ true → (n : Note) (rest : List Note) → w .trace .sent ≡ w .trace .got ++ (n ∷ rest) → length (n .body) ≤ partyIn w Recorder .length)
+
+-- a step of a blocking call that finds no room
+abbrev pub inWait : Step → Bool
+inWait Rest = false
+inWait Look = true
+inWait Copy = false
+inWait (Publish l t) = false
+inWait (Check l t) = false
+inWait (Raise l t) = false
+inWait (Wake l t) = false
+inWait Gate = true
+inWait Epoch = true
+inWait (Again e) = true
+inWait (GateAgain e) = true
+inWait (Wait e) = true
+inWait Asleep = true
+inWait CloseSet = false
+inWait CloseRaise = false
+inWait CloseWake = false
+inWait (ShutSet c) = false
+inWait (ShutRaiseNe c) = false
+inWait (ShutWakeNe c) = false
+inWait (ShutRaiseNf c e) = false
+inWait (ShutWakeNf c e) = false
+
+-- turns of its own, none of which fails
+abbrev pub Turns : Side → List Happening → Type 0
+Turns side [] = Unit
+Turns side (attaches other ∷ hs) = ⊥
+Turns side (plays (Turn mover) payload lent ∷ hs) = (mover ≡ side) × Turns side hs
+Turns side (plays (Failing mover error) payload lent ∷ hs) = ⊥
+Turns side (plays (Spurious mover) payload lent ∷ hs) = ⊥
+Turns side (plays (TimeOut mover) payload lent ∷ hs) = ⊥
+Turns side (plays (Push blocking tag length) payload lent ∷ hs) = ⊥
+Turns side (plays (Pop blocking length) payload lent ∷ hs) = ⊥
+Turns side (plays (Close mover) payload lent ∷ hs) = ⊥
+Turns side (plays (Shutdown mover) payload lent ∷ hs) = ⊥
