@@ -32,7 +32,7 @@ use Rattle.rules.proofs.Leads.{stopAt}
 use Rattle.rules.proofs.Taken.{turnWorld}
 use Rattle.rules.proofs.RealCalls.{Changed, seat-one, seat-two, seated, begins-one, rouses-one, push-changes, pop-changes, spurious-changes, timeout-changes}
 use Rattle.rules.proofs.RealRun.{power-fits, slot-fits, real-reached, real-happens}
-use Rattle.rules.proofs.Own.{cost, Calls, cost-le, cost-none}
+use Rattle.rules.proofs.Costs.{cost, Calls, cost-le, cost-none}
 use Rattle.rules.proofs.Fairly.{Ready, ready-happens, still-duty, dozes}
 use Rattle.rules.proofs.Causes.{room-is, ready-reached}
 use Rattle.rules.proofs.Bound.{has-cause, Going, going-turned}

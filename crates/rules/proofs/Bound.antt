@@ -29,7 +29,8 @@ use Rattle.rules.proofs.Does.{Does, does, nothing, looks, flags, reads,
 use Rattle.rules.proofs.Taken.{turnWorld, turn-refused}
 use Rattle.rules.proofs.RealTurn.{own-is, counter-is, access-is, next-step, leads-here, after-turn, turn-is-after}
 use Rattle.rules.proofs.Heard.{Cause, none, duty, roomBy}
-use Rattle.rules.proofs.Own.{cost, Tries, Calls, ownRoom, fall, calls-on}
+use Rattle.rules.proofs.Own.{Tries}
+use Rattle.rules.proofs.Costs.{cost, Calls, ownRoom, fall, calls-on}
 use Rattle.rules.proofs.Effects.{room-own-is, room-other-is}
 use Rattle.rules.proofs.Listening.{ReadyAt, unrung, duty-kept, mover-is, waiter-is, trace-is}
 use Rattle.rules.proofs.Fairly.{Ready, dozes}

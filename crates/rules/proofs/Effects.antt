@@ -25,7 +25,8 @@ use Rattle.rules.proofs.After.{flagsBy}
 use Rattle.rules.proofs.Leads.{stopAt}
 use Rattle.rules.proofs.Kept.{length-more}
 use Rattle.rules.proofs.Heard.{ifSender, duty, risen, rungBy, roomBy, wakesAt, setsNone}
-use Rattle.rules.proofs.Own.{waitsOn, less, ownRoom}
+use Rattle.rules.proofs.Own.{waitsOn}
+use Rattle.rules.proofs.Costs.{less, ownRoom}
 use Rattle.rules.proofs.Real.{Phase, phase, HasRoom, countOf, rungOf, roomIn, Queue}
 
 module _ (p : Party) (payload buffer : List ℕ) (t : Trace) where

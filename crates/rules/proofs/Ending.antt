@@ -41,7 +41,8 @@ use Rattle.rules.proofs.RealTurn.{next-step, leads-here, after-turn, tu
 use Rattle.rules.proofs.RealCalls.{Changed, seat-same, seated, push-changes, pop-changes, close-changes, shut-changes, spurious-changes, timeout-changes}
 use Rattle.rules.proofs.RealRun.{power-fits, slot-fits, real-reached, real-happens}
 use Rattle.rules.proofs.Heard.{Cause, none, duty}
-use Rattle.rules.proofs.Own.{less, toRest, seven, rested, nearer}
+use Rattle.rules.proofs.Costs.{less}
+use Rattle.rules.proofs.Nearer.{toRest, seven, rested, nearer}
 use Rattle.rules.proofs.Listening.{duty-kept, mover-is, waiter-is, flags-left}
 use Rattle.rules.proofs.Fairly.{Ready, ready-happens, still-duty, dozes}
 use Rattle.rules.proofs.Causes.{ready-reached}

@@ -20,6 +20,8 @@ pub mod RealAttach
 pub mod RealRun
 pub mod Heard
 pub mod Own
+pub mod Costs
+pub mod Nearer
 pub mod Effects
 pub mod Listening
 pub mod Fairly
@@ -32,5 +34,8 @@ pub mod Delivers
 pub mod Reaches
 pub mod Sized
 pub mod Lasts
+pub mod Stretches
 pub mod Sleeps
+pub mod Drowsy
+pub mod Dreaming
 pub mod Begins

@@ -34,7 +34,8 @@ use Rattle.rules.proofs.Leads.{stopAt}
 use Rattle.rules.proofs.Taken.{turnWorld, seat-own, seat-other}
 use Rattle.rules.proofs.RealTurn.{own-is, access-is, next-step, leads-here, after-turn, turn-is-after}
 use Rattle.rules.proofs.Heard.{Cause, Duty, none, duty, Owed, Good, risen, rungBy, roomBy, wakesAt, setsNone, theirs}
-use Rattle.rules.proofs.Own.{waitsOn, less, ownRoom, own, Tries, tries}
+use Rattle.rules.proofs.Own.{waitsOn, own, Tries, tries}
+use Rattle.rules.proofs.Costs.{less, ownRoom}
 use Rattle.rules.proofs.Effects.{rung-other, rung-own, room-own-is, room-other-is, flags-still, waits-still, woken-phase}
 use Rattle.rules.proofs.Real.{Phase, phase, sleeps, rungOf, roomIn, Since, Real}
 

@@ -1,0 +1,211 @@
+-- The turns that are left to a store: the cost falls by one at each.
+use mathlib.Core.Path.{_≡_, refl}
+use mathlib.Core.Bool.{Bool}
+use Prim.Native.Nat.{ℕ, zero, suc, _+_, _*_, _-_, _≤_}
+use native.Mathlib.Omega.{arith}
+use Rattle.types.specs.declared.Step.{Step}
+use Rattle.types.specs.declared.Step.the-variants.{Rest, Look, Copy, Publish, Check, Raise, Wake, Gate, Epoch, Again, GateAgain, Wait, Asleep, CloseSet, CloseRaise, CloseWake, ShutSet, ShutRaiseNe, ShutWakeNe, ShutRaiseNf, ShutWakeNf}
+use Rattle.rules.proofs.Leads.{Leads, idles, finds, blocks, gives-up, copies, spills, tells, stores, owes, passes, raises, wakes, enters, stops, reads, finds-again, stays, enters-again, stops-again, returns, ends, dreams, closes, closes-alone, close-raises, close-wakes, shuts, shut-raises, shut-wakes, shut-raises-again, shut-wakes-again, sleeps as falls-asleep}
+use Rattle.rules.proofs.Heard.{roomBy}
+use Rattle.rules.proofs.Real.{Phase, resting, looking, copying, publishing, telling, asking, armed, poised, waits, sleeps, leaving, phase}
+
+-- two turns more for the one store that finds the other blocked
+abbrev pub extra : ℕ → ℕ
+extra zero = 2
+extra (suc x) = 0
+
+abbrev pub less : ℕ → ℕ
+less zero = zero
+less (suc x) = x
+
+-- the turns before the next store; x is the other's room
+abbrev pub ahead : Step → ℕ → ℕ
+ahead Rest x = 2 + extra x
+ahead Look x = 2 + extra x
+ahead Copy x = 1 + extra x
+ahead (Publish l g) x = extra x
+ahead (Check l g) x = 3 + extra (less x)
+ahead (Raise l g) x = 4 + extra x
+ahead (Wake l g) x = 3 + extra x
+ahead Gate x = 4 + extra x
+ahead Epoch x = 3 + extra x
+ahead (Again e) x = 2 + extra x
+ahead (GateAgain e) x = 4 + extra x
+ahead (Wait e) x = 3 + extra x
+ahead Asleep x = 0
+ahead CloseSet x = 0
+ahead CloseRaise x = 0
+ahead CloseWake x = 0
+ahead (ShutSet c) x = 0
+ahead (ShutRaiseNe c) x = 0
+ahead (ShutWakeNe c) x = 0
+ahead (ShutRaiseNf c f) x = 0
+ahead (ShutWakeNf c f) x = 0
+
+-- the turns that are left, with room k
+abbrev pub cost : Step → (k x : ℕ) → ℕ
+cost s zero x = 0
+cost s (suc k) x = 4 * k + 1 + ahead s x
+
+extra-le : (x : ℕ) → extra x ≤ 2
+extra-le zero = omega arith
+extra-le (suc x) = omega arith
+
+ahead-le : (s : Step) (x : ℕ) → extra x ≤ 2 → extra (less x) ≤ 2 → ahead s x ≤ 6
+ahead-le Rest x h g = omega arith
+ahead-le Look x h g = omega arith
+ahead-le Copy x h g = omega arith
+ahead-le (Publish l t) x h g = omega arith
+ahead-le (Check l t) x h g = omega arith
+ahead-le (Raise l t) x h g = omega arith
+ahead-le (Wake l t) x h g = omega arith
+ahead-le Gate x h g = omega arith
+ahead-le Epoch x h g = omega arith
+ahead-le (Again e) x h g = omega arith
+ahead-le (GateAgain e) x h g = omega arith
+ahead-le (Wait e) x h g = omega arith
+ahead-le Asleep x h g = omega arith
+ahead-le CloseSet x h g = omega arith
+ahead-le CloseRaise x h g = omega arith
+ahead-le CloseWake x h g = omega arith
+ahead-le (ShutSet c) x h g = omega arith
+ahead-le (ShutRaiseNe c) x h g = omega arith
+ahead-le (ShutWakeNe c) x h g = omega arith
+ahead-le (ShutRaiseNf c f) x h g = omega arith
+ahead-le (ShutWakeNf c f) x h g = omega arith
+
+pub cost-le : (s : Step) (k x : ℕ) → cost s k x ≤ 4 * k + 3
+cost-le s zero x = omega arith
+cost-le s (suc k) x = omega (arith, ahead-le s x (extra-le x) (extra-le (less x)))
+
+pub cost-none : (s : Step) (k x : ℕ) → cost s k x ≤ 0 → k ≡ 0
+cost-none s zero x h = refl
+cost-none s (suc k) x h = absurd (omega arith)
+
+-- in a push or a pop, or between calls
+abbrev pub Calls : Phase → Type 0
+Calls resting = Unit
+Calls looking = Unit
+Calls copying = Unit
+Calls (publishing u t) = Unit
+Calls (telling u t) = Unit
+Calls asking = Unit
+Calls (armed e) = Unit
+Calls (poised e) = Unit
+Calls (waits e) = Unit
+Calls sleeps = Unit
+Calls leaving = ⊥
+
+-- the own room after a turn
+abbrev pub ownRoom : Step → ℕ → ℕ
+ownRoom Rest k = k
+ownRoom Look k = k
+ownRoom Copy k = k
+ownRoom (Publish l g) k = less k
+ownRoom (Check l g) k = k
+ownRoom (Raise l g) k = k
+ownRoom (Wake l g) k = k
+ownRoom Gate k = k
+ownRoom Epoch k = k
+ownRoom (Again e) k = k
+ownRoom (GateAgain e) k = k
+ownRoom (Wait e) k = k
+ownRoom Asleep k = k
+ownRoom CloseSet k = k
+ownRoom CloseRaise k = k
+ownRoom CloseWake k = k
+ownRoom (ShutSet c) k = k
+ownRoom (ShutRaiseNe c) k = k
+ownRoom (ShutWakeNe c) k = k
+ownRoom (ShutRaiseNf c f) k = k
+ownRoom (ShutWakeNf c f) k = k
+
+stored-cost : (l t k x : ℕ) → suc (cost (Check l t) k (suc x)) ≤ cost (Publish l t) (suc k) x
+stored-cost l t zero x = omega arith
+stored-cost l t (suc k) zero = omega arith
+stored-cost l t (suc k) (suc x) = omega arith
+
+alone-cost : (l t k x : ℕ) → suc (cost Rest k (suc x)) ≤ cost (Publish l t) (suc k) x
+alone-cost l t zero x = omega arith
+alone-cost l t (suc k) x = omega arith
+
+owed-cost : (l t k x : ℕ) → x ≡ 1 → suc (cost (Raise l t) (suc k) x) ≤ cost (Check l t) (suc k) x
+owed-cost l t k zero h = absurd (omega arith)
+owed-cost l t k (suc zero) h = omega arith
+owed-cost l t k (suc (suc x)) h = absurd (omega arith)
+
+passed-cost : (l t k x : ℕ) → (x ≡ 1 → ⊥) → suc (cost Rest (suc k) x) ≤ cost (Check l t) (suc k) x
+passed-cost l t k zero h = omega arith
+passed-cost l t k (suc zero) h = absurd (h refl)
+passed-cost l t k (suc (suc x)) h = omega arith
+
+-- with room, a turn of a call takes one off the cost; a pop's copy fits, and nobody falls asleep that has cause
+pub fall : (k x : ℕ) (z m r : Bool) (b : ℕ) (s next : Step) → Leads (suc k) x z m r b s next → Calls (phase s) → (s ≡ Rest → ⊥) → (s ≡ Asleep → ⊥) → (s ≡ Copy → next ≡ Rest → ⊥) → ((e : ℕ) → s ≡ Wait e → b ≡ e → ⊥)
+    → suc (cost next (ownRoom s (suc k)) (roomBy s x)) ≤ cost s (suc k) x
+fall k x z m r b s next idles c i j f d = absurd (i refl)
+fall k x z m r b s next (finds h) c i j f d = omega arith
+fall k x z m r b s next (blocks h q) c i j f d = absurd (omega arith)
+fall k x z m r b s next (gives-up h q) c i j f d = absurd (omega arith)
+fall k x z m r b s next copies c i j f d = omega arith
+fall k x z m r b s next spills c i j f d = absurd (f refl refl)
+fall k x z m r b s next (tells {l = l} {t = t} h) c i j f d = stored-cost l t k x
+fall k x z m r b s next (stores {l = l} {t = t} h) c i j f d = alone-cost l t k x
+fall k x z m r b s next (owes {l = l} {t = t} h) c i j f d = owed-cost l t k x h
+fall k x z m r b s next (passes {l = l} {t = t} h) c i j f d = passed-cost l t k x h
+fall k x z m r b s next raises c i j f d = omega arith
+fall k x z m r b s next wakes c i j f d = omega arith
+fall k x z m r b s next (enters h) c i j f d = omega arith
+fall k x z m r b s next (stops h) c i j f d = omega arith
+fall k x z m r b s next reads c i j f d = omega arith
+fall k x z m r b s next (finds-again h) c i j f d = omega arith
+fall k x z m r b s next (stays h) c i j f d = absurd (omega arith)
+fall k x z m r b s next (enters-again h) c i j f d = omega arith
+fall k x z m r b s next (stops-again h) c i j f d = omega arith
+fall k x z m r b s next (falls-asleep h) c i j f d = absurd (d _ refl h)
+fall k x z m r b s next returns c i j f d = omega arith
+fall k x z m r b s next ends c i j f d = omega arith
+fall k x z m r b s next dreams c i j f d = absurd (j refl)
+fall k x z m r b s next (closes h) c i j f d = absurd c
+fall k x z m r b s next (closes-alone h) c i j f d = absurd c
+fall k x z m r b s next close-raises c i j f d = absurd c
+fall k x z m r b s next close-wakes c i j f d = absurd c
+fall k x z m r b s next shuts c i j f d = absurd c
+fall k x z m r b s next shut-raises c i j f d = absurd c
+fall k x z m r b s next shut-wakes c i j f d = absurd c
+fall k x z m r b s next shut-raises-again c i j f d = absurd c
+fall k x z m r b s next shut-wakes-again c i j f d = absurd c
+
+-- a turn stays in the call or ends it
+pub calls-on : (k x : ℕ) (z m r : Bool) (b : ℕ) (s next : Step) → Leads k x z m r b s next → Calls (phase s) → Calls (phase next)
+calls-on k x z m r b s next idles c = tt
+calls-on k x z m r b s next (finds h) c = tt
+calls-on k x z m r b s next (blocks h q) c = tt
+calls-on k x z m r b s next (gives-up h q) c = tt
+calls-on k x z m r b s next copies c = tt
+calls-on k x z m r b s next spills c = tt
+calls-on k x z m r b s next (tells h) c = tt
+calls-on k x z m r b s next (stores h) c = tt
+calls-on k x z m r b s next (owes h) c = tt
+calls-on k x z m r b s next (passes h) c = tt
+calls-on k x z m r b s next raises c = tt
+calls-on k x z m r b s next wakes c = tt
+calls-on k x z m r b s next (enters h) c = tt
+calls-on k x z m r b s next (stops h) c = tt
+calls-on k x z m r b s next reads c = tt
+calls-on k x z m r b s next (finds-again h) c = tt
+calls-on k x z m r b s next (stays h) c = tt
+calls-on k x z m r b s next (enters-again h) c = tt
+calls-on k x z m r b s next (stops-again h) c = tt
+calls-on k x z m r b s next (falls-asleep h) c = tt
+calls-on k x z m r b s next returns c = tt
+calls-on k x z m r b s next ends c = tt
+calls-on k x z m r b s next dreams c = tt
+calls-on k x z m r b s next (closes h) c = absurd c
+calls-on k x z m r b s next (closes-alone h) c = tt
+calls-on k x z m r b s next close-raises c = absurd c
+calls-on k x z m r b s next close-wakes c = tt
+calls-on k x z m r b s next shuts c = absurd c
+calls-on k x z m r b s next shut-raises c = absurd c
+calls-on k x z m r b s next shut-wakes c = absurd c
+calls-on k x z m r b s next shut-raises-again c = absurd c
+calls-on k x z m r b s next shut-wakes-again c = tt
