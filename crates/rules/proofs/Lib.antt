@@ -39,3 +39,5 @@ pub mod Sleeps
 pub mod Drowsy
 pub mod Dreaming
 pub mod Begins
+pub mod OneAccess
+pub mod Touches

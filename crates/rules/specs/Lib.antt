@@ -7,6 +7,7 @@ pub mod Calls
 pub mod Access
 pub mod Turn
 pub mod Bench
+pub mod Touch
 pub mod Given
 pub mod Leaves
 pub mod Run
