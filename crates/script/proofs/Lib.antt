@@ -1,1 +1,1 @@
-pub mod Filled
+pub mod Kept

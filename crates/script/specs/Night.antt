@@ -15,9 +15,9 @@ use Rattle.layout.specs.Limits.{totalBytes}
 use Rattle.layout.specs.Create.{created}
 use Rattle.layout.specs.Attach.{attachReply, attachLeaves}
 use Rattle.rules.specs.Bench.{played, playedLeaves, playedBuffer}
-use Rattle.script.specs.declared.Asked.{Asked}
-use Rattle.script.specs.declared.Asked.the-variants.{Plays, Bad}
-use Rattle.script.specs.Records.{recordBytes, payloadBytes, kindIn, payloadIn, askedIn, reportOf, cutReport}
+use Rattle.records.specs.declared.Asked.{Asked}
+use Rattle.records.specs.declared.Asked.the-variants.{Plays, Bad}
+use Rattle.records.specs.Records.{recordBytes, payloadBytes, kindIn, payloadIn, askedIn, reportOf, cutReport}
 
 -- what the program keeps between two records: the region, both parties, the running push's payload and the pop's buffer,
 -- 24 bytes each
@@ -26,6 +26,9 @@ pub record Night : Type 0 where
   pub bench : Bench
   pub payload : List ℕ
   pub buffer : List ℕ
+
+abbrev pub nightOf : (region : List ℕ) → Bench → (payload buffer : List ℕ) → Night
+nightOf region b payload buffer = record { region = region; bench = b; payload = payload; buffer = buffer }
 
 -- power 2, slot 32, not-full on, both attached
 abbrev pub power : ℕ

@@ -1,172 +1,77 @@
-// The script program's work: records in, records out.
+// One record of a script: what it asks is played, and reported.
 ghost use mathlib.Core.Path.{_≡_};
-ghost use Prim.Native.Nat.{_≤_, min};
-ghost use lib.Dec.{eqb};
+ghost use mathlib.Core.Bool.{_&&_};
 ghost use lib.ListN.{length};
 ghost use Rattle.types.specs.Pick.{pick};
-ghost use Rattle.script.specs.Records.{recordBytes, payloadBytes, actionOf, sideOf, when, moveAsked, askedAt, askedIn, reportOf, cutReport};
+ghost use Rattle.records.specs.Records.{recordBytes, payloadBytes, payloadIn};
+ghost use Rattle.script.specs.Night.{nightOf, playedBy, regionBy, bufferBy, after, reported};
+use records::Asked;
+use records::Record;
+use types::Answer;
+use types::Bench;
 use types::Event;
-use types::Side;
-use types::Told;
+use types::Played;
 
-// Where the fields of a record lie, and of a report.
-struct Record {}
-
-impl Record {
-    const BYTES: usize = 32;
-
-    const KIND: usize = 0;
-
-    const MODE: usize = 1;
-
-    const TAG: usize = 2;
-
-    const LENGTH: usize = 4;
-
-    const ERROR: usize = 6;
-
-    const PAYLOAD: usize = 8;
-
-    const PAYLOAD_BYTES: usize = 24;
-}
-
-// What a pair of kinds asks of the side that it names. Move is a push or a pop.
-pub enum Action {
-    Turn,
-    Spurious,
-    TimeOut,
-    Failing,
-    Move,
-    Close,
-    Shutdown,
-    Unknown,
-}
-
-// What a record asks: an event of the bench, or nothing that is known.
-pub enum Asked {
-    Plays(Event),
-    Bad,
-}
-
-pub fn action_of(pair: u8) -> Action
-    ensures { λ r. ⌜ r ≡ actionOf pair ⌝ }
+// An event, lent as much of payload and buffer as the calls named.
+fn play_event(region: &mut [u8], b: Bench, e: Event, payload: &[u8], buffer: &mut [u8]) -> Played
+    requires { ⌜ (length (now payload) ≡ payloadBytes) × (length (now buffer) ≡ payloadBytes) ⌝ }
+    ensures value { λ r. ⌜ r ≡ playedBy (Asked.Plays e) (nightOf (now (region .entry)) b (now (payload .entry)) (now (buffer .entry))) ⌝ }
+    ensures leaves { λ r. ⌜ now (region .exit) ≡ regionBy (Asked.Plays e) (nightOf (now (region .entry)) b (now (payload .entry)) (now (buffer .entry))) ⌝ }
+    ensures given { λ r. ⌜ now (buffer .exit) ≡ bufferBy (Asked.Plays e) (nightOf (now (region .entry)) b (now (payload .entry)) (now (buffer .entry))) ⌝ }
 {
-    match pair {
-        0 => Action::Turn,
-        1 => Action::Spurious,
-        2 => Action::TimeOut,
-        3 => Action::Failing,
-        4 => Action::Move,
-        5 => Action::Close,
-        6 => Action::Shutdown,
-        _ => Action::Unknown,
-    }
+    let sender = b.sender;
+    let recorder = b.recorder;
+    let n = records::lent(sender.length);
+    let m = records::lent(recorder.length);
+    bench::play(region, b, e, &payload[..n], &mut buffer[..m])
 }
 
-pub fn side_of(kind: u8) -> Side
-    ensures { λ r. ⌜ r ≡ sideOf kind ⌝ }
-{
-    let even = kind % 2 == 0;
-    if even { Side::Sender } else { Side::Recorder }
-}
-
-pub fn when(ok: bool, e: Event) -> Asked
-    ensures { λ r. ⌜ r ≡ when ok e ⌝ }
-{
-    if ok { Asked::Plays(e) } else { Asked::Bad }
-}
-
-fn push_asked(mode: u8, tag: u16, length: u16) -> Asked
-    ensures { λ r. ⌜ r ≡ moveAsked Side.Sender mode tag length ⌝ }
-{
-    let known = mode <= 1;
-    when(known, Event::Push(mode == 1, tag, length as u32))
-}
-
-fn pop_asked(mode: u8, tag: u16, length: u16) -> Asked
-    ensures { λ r. ⌜ r ≡ moveAsked Side.Recorder mode tag length ⌝ }
-{
-    let known = mode <= 1;
-    let fits = length as usize <= Record::PAYLOAD_BYTES;
-    if known {
-        return when(fits, Event::Pop(mode == 1, length as u32));
-    }
-    Asked::Bad
-}
-
-pub fn move_asked(side: Side, mode: u8, tag: u16, length: u16) -> Asked
-    ensures { λ r. ⌜ r ≡ moveAsked side mode tag length ⌝ }
-{
-    match side {
-        Side::Sender => push_asked(mode, tag, length),
-        Side::Recorder => pop_asked(mode, tag, length),
-    }
-}
-
-pub fn asked_at(a: Action, side: Side, mode: u8, tag: u16, length: u16, error: u16) -> Asked
-    ensures { λ r. ⌜ r ≡ askedAt a side mode tag length error ⌝ }
+fn play_asked(region: &mut [u8], b: Bench, a: Asked, payload: &[u8], buffer: &mut [u8]) -> Played
+    requires { ⌜ (length (now payload) ≡ payloadBytes) × (length (now buffer) ≡ payloadBytes) ⌝ }
+    ensures value { λ r. ⌜ r ≡ playedBy a (nightOf (now (region .entry)) b (now (payload .entry)) (now (buffer .entry))) ⌝ }
+    ensures leaves { λ r. ⌜ now (region .exit) ≡ regionBy a (nightOf (now (region .entry)) b (now (payload .entry)) (now (buffer .entry))) ⌝ }
+    ensures given { λ r. ⌜ now (buffer .exit) ≡ bufferBy a (nightOf (now (region .entry)) b (now (payload .entry)) (now (buffer .entry))) ⌝ }
 {
     match a {
-        Action::Turn => Asked::Plays(Event::Turn(side)),
-        Action::Spurious => Asked::Plays(Event::Spurious(side)),
-        Action::TimeOut => Asked::Plays(Event::TimeOut(side)),
-        Action::Failing => Asked::Plays(Event::Failing(side, error)),
-        Action::Move => move_asked(side, mode, tag, length),
-        Action::Close => Asked::Plays(Event::Close(side)),
-        Action::Shutdown => Asked::Plays(Event::Shutdown(side)),
-        Action::Unknown => Asked::Bad,
+        Asked::Plays(e) => play_event(region, b, e, payload, buffer),
+        Asked::Bad => Played {
+            bench: b,
+            answer: Answer::BadCall,
+        },
     }
 }
 
-pub fn asked_in(given: &[u8]) -> Asked
-    requires { ⌜ length (now given) ≡ recordBytes ⌝ }
-    ensures { λ r. ⌜ r ≡ askedIn (now (given .entry)) ⌝ }
+// A push that was begun keeps its record's payload.
+fn keep(payload: &mut [u8], given: &[u8], push: bool, begun: bool)
+    requires { ⌜ (length (now payload) ≡ payloadBytes) × (length (now given) ≡ recordBytes) ⌝ }
+    ensures { λ _. ⌜ now (payload .exit) ≡ pick (push && begun) (payloadIn (now (given .entry))) (now (payload .entry)) ⌝ }
 {
+    if push {
+        if begun {
+            runs::copy_out(given, Record::PAYLOAD, Record::PAYLOAD_BYTES, payload);
+        }
+    }
+}
+
+// One record: what it asks is played, and reported.
+pub fn play_record(
+    region: &mut [u8],
+    b: Bench,
+    payload: &mut [u8],
+    buffer: &mut [u8],
+    given: &[u8],
+    out: &mut [u8],
+) -> Bench
+    requires { ⌜ (length (now payload) ≡ payloadBytes) × (length (now buffer) ≡ payloadBytes) × (length (now given) ≡ recordBytes) × (length (now out) ≡ recordBytes) ⌝ }
+    ensures leaves { λ r. ⌜ nightOf (now (region .exit)) r (now (payload .exit)) (now (buffer .exit)) ≡ after (nightOf (now (region .entry)) b (now (payload .entry)) (now (buffer .entry))) (now (given .entry)) ⌝ }
+    ensures tells { λ r. ⌜ now (out .exit) ≡ reported (nightOf (now (region .entry)) b (now (payload .entry)) (now (buffer .entry))) (now (given .entry)) ⌝ }
+{
+    let a = records::asked_in(given);
+    let played = play_asked(region, b, a, payload, buffer);
+    let answer = played.answer;
+    let told = answer.told();
     let kind = words::load8(given, Record::KIND);
-    let mode = words::load8(given, Record::MODE);
-    let tag = words::load16(given, Record::TAG);
-    let length = words::load16(given, Record::LENGTH);
-    let error = words::load16(given, Record::ERROR);
-    asked_at(action_of(kind / 2), side_of(kind), mode, tag, length, error)
-}
-
-// As many bytes of a payload as a call names, and no more than there are.
-pub fn lent(n: u32) -> usize
-    ensures is { λ r. ⌜ r ≡ min n payloadBytes ⌝ }
-    ensures within { λ r. ⌜ r ≤ payloadBytes ⌝ }
-{
-    let n = n as usize;
-    if n < Record::PAYLOAD_BYTES { n } else { Record::PAYLOAD_BYTES }
-}
-
-// How many bytes of a buffer a report shows: a delivered note's alone.
-fn shown(number: u8, length: u16) -> usize
-    ensures is { λ r. ⌜ r ≡ pick (eqb number 0) (min length payloadBytes) 0 ⌝ }
-    ensures within { λ r. ⌜ r ≤ payloadBytes ⌝ }
-{
-    let done = number == 0;
-    if done { lent(length as u32) } else { 0 }
-}
-
-pub fn report_of(kind: u8, t: Told, buffer: &[u8], out: &mut [u8])
-    requires { ⌜ (length (now buffer) ≡ payloadBytes) × (length (now out) ≡ recordBytes) ⌝ }
-    ensures { λ _. ⌜ now (out .exit) ≡ reportOf kind t (now (buffer .entry)) ⌝ }
-{
-    let n = shown(t.number, t.length);
-    runs::clear(out, Record::BYTES);
-    words::store8(out, Record::KIND, kind);
-    words::store8(out, 1, t.number);
-    words::store16(out, Record::TAG, t.tag);
-    words::store16(out, Record::LENGTH, t.length);
-    words::store16(out, Record::ERROR, t.error);
-    runs::copy_in(out, Record::PAYLOAD, &buffer[..n]);
-}
-
-// The report of a cut last record.
-pub fn cut_report(out: &mut [u8; 32])
-    ensures { λ _. ⌜ now (out .exit) ≡ cutReport ⌝ }
-{
-    runs::clear(out, Record::BYTES);
-    words::store8(out, Record::KIND, 0xFF);
-    words::store8(out, 1, 20);
+    keep(payload, given, kind == 8, told.number == 254);
+    records::report_of(kind, told, buffer, out);
+    played.bench
 }
