@@ -106,9 +106,9 @@ in-call (ShutWakeNe c) e = absurd (let z : _≡_ {A = ℕ} 0 1 = cc in omega ari
 in-call (ShutRaiseNf c f) e = absurd (let z : _≡_ {A = ℕ} 0 1 = cc in omega arith)
 in-call (ShutWakeNf c f) e = absurd (let z : _≡_ {A = ℕ} 0 1 = cc in omega arith)
 
-pub own-prompt : (side : Side) (fault : Fault) (w : World) → FairTurn side side fault w → (e : ℕ) → partyIn w side .step ≡ Wait e → rungOf side (w .trace) < 2 ^ 32
-own-prompt Sender fault w f = f
-own-prompt Recorder fault w f = f
+pub own-timely : (side : Side) (fault : Fault) (w : World) → FairTurn side side fault w → (e : ℕ) → partyIn w side .step ≡ Wait e → rungOf side (w .trace) < 2 ^ 32
+own-timely Sender fault w f = f
+own-timely Recorder fault w f = f
 
 module _ (P S v : ℕ) (on : Bool) where
   -- a call of one's own
@@ -135,7 +135,7 @@ module _ (P S v : ℕ) (on : Bool) where
         → (notes : List Note) (n : ℕ) → Going P S v on side notes (counts w mover payload lent fault + n) w → Going P S v on side notes n (turnWorld w mover payload lent fault)
     turned w real side mover payload lent fault e big f y notes n go =
         subst (λ (m : Side). (takes w m payload lent fault ≡ true → FairTurn side m fault w) → Going P S v on side notes (counts w m payload lent fault + n) w → Going P S v on side notes n (turnWorld w m payload lent fault))
-        (sym e) (λ f go. going-turned P S v on power-ok slot-ok w real side payload lent fault notes n big (λ g. own-prompt side fault w (f g)) y go) f go
+        (sym e) (λ f go. going-turned P S v on power-ok slot-ok w real side payload lent fault notes n big (λ g. own-timely side fault w (f g)) y go) f go
 
     -- a begin is no turn
     no-tick : (notes : List Note) (n : ℕ) (side : Side) (w : World) → Going P S v on side notes (0 + n) w → Going P S v on side notes n w

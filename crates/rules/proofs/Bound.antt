@@ -201,14 +201,14 @@ module _ (P S v : ℕ) (on : Bool) where
 
       -- it does not fall asleep with cause
       pub wakeful : duty (other side) (partyIn w (other side) .step) ≡ none → ((e : ℕ) → s ≡ Wait e → rungOf side t < 2 ^ 32) → Ready P S v on side w → Cause k z → (e : ℕ) → s ≡ Wait e → leAt 4 (w .region) (bellAt (sleepBell side)) ≡ e → ⊥
-      wakeful quiet prompt y c e at b =
+      wakeful quiet timely y c e at b =
           naps P S v on (rings (other side) on) side (other side) w e quiet at
-          (unrung e (leAt 4 (w .region) (bellAt (sleepBell side))) (rungOf side t) (prompt e at)
+          (unrung e (leAt 4 (w .region) (bellAt (sleepBell side))) (rungOf side t) (timely e at)
           (subst (λ (u : Step). Since (phase u) (leAt 4 (w .region) (bellAt (sleepBell side))) (rungOf side t)) at (real .sides side .since)) b)
           y c
 
       going-taken : (notes : List Note) (n : ℕ) → Big side w → ((e : ℕ) → s ≡ Wait e → rungOf side t < 2 ^ 32) → Ready P S v on side w → Going side notes (pick (moves (stanceOf s)) 1 0 + n) w → Going side notes n after
-      going-taken notes n big prompt y go =
+      going-taken notes n big timely y go =
           let leads = leads-here P S v on power-ok slot-ok w real side payload lent fault g in
           let me = mover-is P S v on power-ok slot-ok w real side payload lent fault g in
           let them = waiter-is P S v on power-ok slot-ok w real side payload lent fault g in
@@ -220,18 +220,18 @@ module _ (P S v : ℕ) (on : Bool) where
             left = rw (me, trail, room-own-is p payload buffer t P S v on (w .region) (real .queue) side s (real .sides side .room), room-other-is p payload buffer t P S v on (w .region) (real .queue) side s (real .sides side .room))
                 (turn-cost k _ _ _ _ _ n s next leads (kind s) (go .calls) stays-at-rest
                 (λ h e. dozes P S v on (rings (other side) on) side (other side) w (go .quiet) e y (has-cause k z h))
-                (λ h. fits-here big) (λ h. wakeful (go .quiet) prompt y (has-cause k z h)) (go .left));
+                (λ h. fits-here big) (λ h. wakeful (go .quiet) timely y (has-cause k z h)) (go .left));
             same = ap (notesOf (other side)) trail ∙ notes-kept p payload buffer t side (p .counter) s (nextAt s side (p .counter)) (does side (p .counter) s) ∙ go .same;
           }
 
     pub going-turned : (notes : List Note) (n : ℕ) → Big side w → (takes w side payload lent fault ≡ true → (e : ℕ) → s ≡ Wait e → rungOf side t < 2 ^ 32) → Ready P S v on side w
         → Going side notes (counts w side payload lent fault + n) w → Going side notes n (turnWorld w side payload lent fault)
-    going-turned notes n big prompt y go = by (takes w side payload lent fault) refl
+    going-turned notes n big timely y go = by (takes w side payload lent fault) refl
       where
         by : (b : Bool) → takes w side payload lent fault ≡ b → Going side notes n (turnWorld w side payload lent fault)
         by true g =
             subst (Going side notes n) (sym (turn-is-after P S v on power-ok slot-ok w real side payload lent fault g))
-            (going-taken g notes n big (prompt g) y (subst (λ (b : Bool). Going side notes (pick (b && moves (stanceOf s)) 1 0 + n) w) g go))
+            (going-taken g notes n big (timely g) y (subst (λ (b : Bool). Going side notes (pick (b && moves (stanceOf s)) 1 0 + n) w) g go))
         by false g =
             let e : 0 + n ≡ n = omega arith in
             subst (Going side notes n) (sym (turn-refused w side payload lent fault g))

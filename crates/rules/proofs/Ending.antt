@@ -47,7 +47,7 @@ use Rattle.rules.proofs.Listening.{duty-kept, mover-is, waiter-is, flag
 use Rattle.rules.proofs.Fairly.{Ready, ready-happens, still-duty, dozes}
 use Rattle.rules.proofs.Causes.{ready-reached}
 use Rattle.rules.proofs.Bound.{Kind, rests, dreams, acts, kind, moves-off, wakeful}
-use Rattle.rules.proofs.Asks.{own-prompt, run-parts, typed-parts, fair-parts}
+use Rattle.rules.proofs.Asks.{own-timely, run-parts, typed-parts, fair-parts}
 use Rattle.rules.proofs.Real.{roomIn, rungOf, Real}
 
 -- a flag that is up stays up
@@ -122,13 +122,13 @@ module _ (P S v : ℕ) (on : Bool) where
       s = partyIn w side .step
 
       taken-ends : (g : takes w side payload lent fault ≡ true) → ((e : ℕ) → s ≡ Wait e → rungOf side (w .trace) < 2 ^ 32) → Then side n 1 (after-turn P S v on power-ok slot-ok w real side payload lent fault g)
-      taken-ends g prompt =
+      taken-ends g timely =
           let next = next-step P S v on power-ok slot-ok w real side payload lent fault g in
           let me = mover-is P S v on power-ok slot-ok w real side payload lent fault g in
           let them = waiter-is P S v on power-ok slot-ok w real side payload lent fault g in
           let leads = subst (λ (z : Bool). Leads (roomIn P S v on side (w .trace)) (roomIn P S v on (other side) (w .trace)) z (partyIn w side .blocking) (rings side on) (leAt 4 (w .region) (bellAt (sleepBell side))) s next) (d .up) (leads-here P S v on power-ok slot-ok w real side payload lent fault g) in
           let fell = one-less s next i (awake side n w y d)
-          (nearer _ _ _ _ _ s next leads (wakeful P S v on power-ok slot-ok w real side payload lent fault g (d .quiet) prompt y (stop-cause (roomIn P S v on side (w .trace)) _ (d .up)))) n (d .left) in (
+          (nearer _ _ _ _ _ s next leads (wakeful P S v on power-ok slot-ok w real side payload lent fault g (d .quiet) timely y (stop-cause (roomIn P S v on side (w .trace)) _ (d .up)))) n (d .left) in (
             record {
               quiet = ap (λ (q : Party). duty (other side) (q .step)) them ∙ duty-kept P S v on power-ok slot-ok w real side payload lent fault g ∙ d .quiet;
               up = ap (stopAt side) (flags-left P S v on power-ok slot-ok w real side payload lent fault g) ∙ stop-up side (nextAt s side (partyIn w side .counter)) (leAt 4 (w .region) flagsAt) (real .fixed .small) (d .up);
@@ -138,7 +138,7 @@ module _ (P S v : ℕ) (on : Bool) where
           )
 
       turned-ends : Kind s → (takes w side payload lent fault ≡ true → (e : ℕ) → s ≡ Wait e → rungOf side (w .trace) < 2 ^ 32) → Then side n (counts w side payload lent fault) (turnWorld w side payload lent fault)
-      turned-ends k prompt = by (takes w side payload lent fault) refl (moves (stanceOf s)) refl
+      turned-ends k timely = by (takes w side payload lent fault) refl (moves (stanceOf s)) refl
         where
           still : (u : Step) → s ≡ u → Kind u → moves (stanceOf u) ≡ true
           still u e rests = absurd (i e)
@@ -147,7 +147,7 @@ module _ (P S v : ℕ) (on : Bool) where
 
           by : (b : Bool) → takes w side payload lent fault ≡ b → (m : Bool) → moves (stanceOf s) ≡ m → Then side n (pick (b && m) 1 0) (turnWorld w side payload lent fault)
           by false g m e = subst (Then side n 0) (sym (turn-refused w side payload lent fault g)) (then-same side n w d)
-          by true g true e = subst (Then side n 1) (sym (turn-is-after P S v on power-ok slot-ok w real side payload lent fault g)) (taken-ends g (prompt g))
+          by true g true e = subst (Then side n 1) (sym (turn-is-after P S v on power-ok slot-ok w real side payload lent fault g)) (taken-ends g (timely g))
           by true g false e = absurd (let q = still s refl k in let z : _≡_ {A = ℕ} 0 1 = cc in omega arith)
 
     -- a turn by its mover's name
@@ -155,7 +155,7 @@ module _ (P S v : ℕ) (on : Bool) where
         → (n : ℕ) → Ending side n w → (partyIn w side .step ≡ Rest → ⊥) → Then side n (counts w mover payload lent fault) (turnWorld w mover payload lent fault)
     turned w real side mover payload lent fault e f y n d i =
         subst (λ (m : Side). (takes w m payload lent fault ≡ true → FairTurn side m fault w) → Then side n (counts w m payload lent fault) (turnWorld w m payload lent fault))
-        (sym e) (λ f. turned-ends w real side payload lent fault y n d i (kind (partyIn w side .step)) (λ g. own-prompt side fault w (f g))) f
+        (sym e) (λ f. turned-ends w real side payload lent fault y n d i (kind (partyIn w side .step)) (λ g. own-timely side fault w (f g))) f
 
     ending-happens : (side : Side) (h : Happening) (w : World) → Typed h → Fair side h w → Does side h → Real P S v on w → Ready P S v on side w → (n : ℕ) → Ending side n w → (partyIn w side .step ≡ Rest → ⊥)
         → Then side n (tick h w) (happens h w)

@@ -166,10 +166,10 @@ module _ (P S v : ℕ) (on : Bool) (power-ok : powerOk P ≡ true) (slot-ok : sl
 
   -- a turn of one's own
   pub ready-own : (h : Bool) → ((e : ℕ) → s ≡ Wait e → rungOf side t < 2 ^ 32) → ReadyAt P S v on h side (other side) w → ReadyAt P S v on h side (other side) after
-  ready-own true prompt y =
+  ready-own true timely y =
       rw (mover-is, waiter-is, duty-kept)
       (own _ _ _ _ _ _ s next (leads-here P S v on power-ok slot-ok w real side payload lent fault g) (rungOf side t) (duty (other side) (q .step))
-      (λ e at b. unrung e (leAt 4 r (bellAt (sleepBell side))) (rungOf side t) (prompt e at) (subst (λ (u : Step). Since (phase u) (leAt 4 r (bellAt (sleepBell side))) (rungOf side t)) at (real .sides side .since)) b)
+      (λ e at b. unrung e (leAt 4 r (bellAt (sleepBell side))) (rungOf side t) (timely e at) (subst (λ (u : Step). Since (phase u) (leAt 4 r (bellAt (sleepBell side))) (rungOf side t)) at (real .sides side .since)) b)
       (rungOf side (after .trace)) (roomIn P S v on side (after .trace)) (stopAt side (leAt 4 (after .region) flagsAt))
       (λ u. (
         ap (rungOf side) trace-is ∙ rung-own p payload buffer t side s u,
@@ -177,7 +177,7 @@ module _ (P S v : ℕ) (on : Bool) (power-ok : powerOk P ≡ true) (slot-ok : sl
         ap (stopAt side) (flags-left ∙ flags-still side (p .counter) (leAt 4 r flagsAt) s (waits-still s u)),
       ))
       y)
-  ready-own false prompt y =
+  ready-own false timely y =
       rw mover-is (tries _ _ _ _ _ _ s next (leads-here P S v on power-ok slot-ok w real side payload lent fault g) y)
 
   -- a turn of the other's: here `side` moves, and the other waits

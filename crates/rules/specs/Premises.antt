@@ -41,18 +41,18 @@ abbrev pub rung : Side → World → ℕ
 rung Sender w = w .trace .rungSender
 rung Recorder w = w .trace .rungRecorder
 
-abbrev pub Prompt : Side → World → Type 0
-Prompt side w = (e : ℕ) → partyIn w side .step ≡ Wait e → rung side w < 2 ^ 32
+abbrev pub Timely : Side → World → Type 0
+Timely side w = (e : ℕ) → partyIn w side .step ≡ Wait e → rung side w < 2 ^ 32
 
 -- .. and no wake call of the other's fails that would have woken it
 abbrev pub Lands : (waiter mover : Side) → Fault → World → Type 0
 Lands waiter mover fault w = hears waiter (wokeOf (nextSpec (partyIn w mover)) 0) ≡ true → partyIn w waiter .step ≡ Asleep → errorOf fault ≡ 0
 
 abbrev pub FairTurn : (waiter mover : Side) → Fault → World → Type 0
-FairTurn Sender Sender fault w = Prompt Sender w
+FairTurn Sender Sender fault w = Timely Sender w
 FairTurn Sender Recorder fault w = Lands Sender Recorder fault w
 FairTurn Recorder Sender fault w = Lands Recorder Sender fault w
-FairTurn Recorder Recorder fault w = Prompt Recorder w
+FairTurn Recorder Recorder fault w = Timely Recorder w
 
 -- only a turn that is taken is asked anything
 abbrev pub Fair : (waiter : Side) → Happening → World → Type 0
