@@ -1,0 +1,34 @@
+-- One answer: crate `machine`.
+use mathlib.Core.Path.{refl, sym, _∙_}
+use Rattle.one_answer.specs.OneAnswer.{OneAnswer}
+use Rattle.machine.proofs as code
+
+pub move-at : OneAnswer code.move_at.Kinds.ps code.move_at.Kinds.r code.move_at.Reads.Post
+move-at κs a z z′ ws ws′ p q = (p ∙ sym q, refl)
+
+pub stance-of : OneAnswer code.stance_of.Kinds.ps code.stance_of.Kinds.r code.stance_of.Reads.Post
+stance-of κs a z z′ ws ws′ p q = (p ∙ sym q, refl)
+
+pub step-after : OneAnswer code.step_after.Kinds.ps code.step_after.Kinds.r code.step_after.Reads.Post
+step-after κs a z z′ ws ws′ p q = (p ∙ sym q, refl)
+
+pub answer-of : OneAnswer code.answer_of.Kinds.ps code.answer_of.Kinds.r code.answer_of.Reads.Post
+answer-of κs a z z′ ws ws′ p q = (p ∙ sym q, refl)
+
+pub counter-after : OneAnswer code.counter_after.Kinds.ps code.counter_after.Kinds.r code.counter_after.Reads.Post
+counter-after κs a z z′ ws ws′ p q = (p ∙ sym q, refl)
+
+pub closed-after : OneAnswer code.closed_after.Kinds.ps code.closed_after.Kinds.r code.closed_after.Reads.Post
+closed-after κs a z z′ ws ws′ p q = (p ∙ sym q, refl)
+
+pub take : OneAnswer code.take.Kinds.ps code.take.Kinds.r code.take.Reads.Post
+take κs a z z′ ws ws′ p q = (p ∙ sym q, refl)
+
+pub slot-access : OneAnswer code.slot_access.Kinds.ps code.slot_access.Kinds.r code.slot_access.Reads.Post
+slot-access κs a z z′ ws ws′ p q = (p ∙ sym q, refl)
+
+pub next-at : OneAnswer code.next_at.Kinds.ps code.next_at.Kinds.r code.next_at.Reads.Post
+next-at κs a z z′ ws ws′ p q = (p ∙ sym q, refl)
+
+pub next : OneAnswer code.next.Kinds.ps code.next.Kinds.r code.next.Reads.Post
+next κs a z z′ ws ws′ p q = (p ∙ sym q, refl)

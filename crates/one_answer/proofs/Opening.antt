@@ -1,0 +1,9 @@
+-- One answer: crate `opening`.
+use mathlib.Core.Path.{refl, sym, _∙_, ap}
+use Rattle.script.specs.Night.{Night}
+use Rattle.one_answer.specs.OneAnswer.{OneAnswer}
+use Rattle.opening.proofs as code
+
+pub begin : OneAnswer code.begin.Kinds.ps code.begin.Kinds.r code.begin.Reads.Post
+begin κs a z z′ ws ws′ p q =
+    (ap (λ (n : Night). n .bench) (p ∙ sym q), ap (λ (n : Night). (n .region, (n .payload, (n .buffer, tt)))) (p ∙ sym q))

@@ -1,0 +1,19 @@
+-- One answer: crate `runs`.
+use mathlib.Core.Path.{refl, sym, _∙_, ap}
+use Rattle.one_answer.specs.OneAnswer.{OneAnswer}
+use Rattle.runs.proofs as code
+
+pub copy-in : OneAnswer code.copy_in.Kinds.ps code.copy_in.Kinds.r code.copy_in.Reads.Post
+copy-in κs a z z′ ws ws′ p q = (refl, ap (λ v. (v, (tt, (tt, tt)))) (p ∙ sym q))
+
+pub copy-out : OneAnswer code.copy_out.Kinds.ps code.copy_out.Kinds.r code.copy_out.Reads.Post
+copy-out κs a z z′ ws ws′ p q = (refl, ap (λ v. (tt, (tt, (tt, (v, tt))))) (p ∙ sym q))
+
+pub clear : OneAnswer code.clear.Kinds.ps code.clear.Kinds.r code.clear.Reads.Post
+clear κs a z z′ ws ws′ p q = (refl, ap (λ v. (v, (tt, tt))) (p ∙ sym q))
+
+pub all-zero : OneAnswer code.all_zero.Kinds.ps code.all_zero.Kinds.r code.all_zero.Reads.Post
+all-zero κs a z z′ ws ws′ p q = (p ∙ sym q, refl)
+
+pub same-bytes : OneAnswer code.same_bytes.Kinds.ps code.same_bytes.Kinds.r code.same_bytes.Reads.Post
+same-bytes κs a z z′ ws ws′ p q = (p ∙ sym q, refl)

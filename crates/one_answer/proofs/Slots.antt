@@ -1,0 +1,22 @@
+-- One answer: crate `slots`.
+use mathlib.Core.Path.{refl, sym, _∙_, ap}
+use Rattle.one_answer.specs.OneAnswer.{OneAnswer}
+use Rattle.slots.proofs as code
+
+pub read-head : OneAnswer code.read_head.Kinds.ps code.read_head.Kinds.r code.read_head.Reads.Post
+read-head κs a z z′ ws ws′ p q = (p ∙ sym q, refl)
+
+pub head-at : OneAnswer code.head_at.Kinds.ps code.head_at.Kinds.r code.head_at.Reads.Post
+head-at κs a z z′ ws ws′ p q = (p ∙ sym q, refl)
+
+pub read-payload : OneAnswer code.read_payload.Kinds.ps code.read_payload.Kinds.r code.read_payload.Reads.Post
+read-payload κs a z z′ ws ws′ p q = (refl, ap (λ v. (tt, (tt, (v, tt)))) (p ∙ sym q))
+
+pub payload-at : OneAnswer code.payload_at.Kinds.ps code.payload_at.Kinds.r code.payload_at.Reads.Post
+payload-at κs a z z′ ws ws′ p q = (refl, ap (λ v. (tt, (tt, (tt, (tt, (v, tt)))))) (p ∙ sym q))
+
+pub write : OneAnswer code.write.Kinds.ps code.write.Kinds.r code.write.Reads.Post
+write κs a z z′ ws ws′ p q = (refl, ap (λ v. (v, (tt, (tt, tt)))) (p ∙ sym q))
+
+pub write-at : OneAnswer code.write_at.Kinds.ps code.write_at.Kinds.r code.write_at.Reads.Post
+write-at κs a z z′ ws ws′ p q = (refl, ap (λ v. (v, (tt, (tt, (tt, (tt, tt)))))) (p ∙ sym q))

@@ -1,0 +1,55 @@
+-- One answer: crate `steps`.
+use mathlib.Core.Path.{refl, sym, _∙_}
+use Rattle.one_answer.specs.OneAnswer.{OneAnswer}
+use Rattle.steps.proofs as code
+
+pub room-move : OneAnswer code.room_move.Kinds.ps code.room_move.Kinds.r code.room_move.Reads.Post
+room-move κs a z z′ ws ws′ p q = (p ∙ sym q, refl)
+
+pub stuck-move : OneAnswer code.stuck_move.Kinds.ps code.stuck_move.Kinds.r code.stuck_move.Reads.Post
+stuck-move κs a z z′ ws ws′ p q = (p ∙ sym q, refl)
+
+pub look-move : OneAnswer code.look_move.Kinds.ps code.look_move.Kinds.r code.look_move.Reads.Post
+look-move κs a z z′ ws ws′ p q = (p ∙ sym q, refl)
+
+pub fit-move : OneAnswer code.fit_move.Kinds.ps code.fit_move.Kinds.r code.fit_move.Reads.Post
+fit-move κs a z z′ ws ws′ p q = (p ∙ sym q, refl)
+
+pub copy-with : OneAnswer code.copy_with.Kinds.ps code.copy_with.Kinds.r code.copy_with.Reads.Post
+copy-with κs a z z′ ws ws′ p q = (p ∙ sym q, refl)
+
+pub copy-move : OneAnswer code.copy_move.Kinds.ps code.copy_move.Kinds.r code.copy_move.Reads.Post
+copy-move κs a z z′ ws ws′ p q = (p ∙ sym q, refl)
+
+pub publish-move : OneAnswer code.publish_move.Kinds.ps code.publish_move.Kinds.r code.publish_move.Reads.Post
+publish-move κs a z z′ ws ws′ p q = (p ∙ sym q, refl)
+
+pub check-move : OneAnswer code.check_move.Kinds.ps code.check_move.Kinds.r code.check_move.Reads.Post
+check-move κs a z z′ ws ws′ p q = (p ∙ sym q, refl)
+
+pub unless-failed : OneAnswer code.unless_failed.Kinds.ps code.unless_failed.Kinds.r code.unless_failed.Reads.Post
+unless-failed κs a z z′ ws ws′ p q = (p ∙ sym q, refl)
+
+pub wake-move : OneAnswer code.wake_move.Kinds.ps code.wake_move.Kinds.r code.wake_move.Reads.Post
+wake-move κs a z z′ ws ws′ p q = (p ∙ sym q, refl)
+
+pub door-move : OneAnswer code.door_move.Kinds.ps code.door_move.Kinds.r code.door_move.Reads.Post
+door-move κs a z z′ ws ws′ p q = (p ∙ sym q, refl)
+
+pub gate-move : OneAnswer code.gate_move.Kinds.ps code.gate_move.Kinds.r code.gate_move.Reads.Post
+gate-move κs a z z′ ws ws′ p q = (p ∙ sym q, refl)
+
+pub again-move : OneAnswer code.again_move.Kinds.ps code.again_move.Kinds.r code.again_move.Reads.Post
+again-move κs a z z′ ws ws′ p q = (p ∙ sym q, refl)
+
+pub nap-move : OneAnswer code.nap_move.Kinds.ps code.nap_move.Kinds.r code.nap_move.Reads.Post
+nap-move κs a z z′ ws ws′ p q = (p ∙ sym q, refl)
+
+pub wait-move : OneAnswer code.wait_move.Kinds.ps code.wait_move.Kinds.r code.wait_move.Reads.Post
+wait-move κs a z z′ ws ws′ p q = (p ∙ sym q, refl)
+
+pub close-move : OneAnswer code.close_move.Kinds.ps code.close_move.Kinds.r code.close_move.Reads.Post
+close-move κs a z z′ ws ws′ p q = (p ∙ sym q, refl)
+
+pub shut-move : OneAnswer code.shut_move.Kinds.ps code.shut_move.Kinds.r code.shut_move.Reads.Post
+shut-move κs a z z′ ws ws′ p q = (p ∙ sym q, refl)

@@ -1,0 +1,1 @@
+// Theorems alone: nothing is declared here.
