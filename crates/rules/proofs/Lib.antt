@@ -5,6 +5,7 @@ pub mod Refusals
 pub mod Frames
 pub mod Real
 pub mod After
+pub mod Rings
 pub mod Rooms
 pub mod Leads
 pub mod Does
@@ -41,3 +42,4 @@ pub mod Dreaming
 pub mod Begins
 pub mod OneAccess
 pub mod Touches
+pub mod Seldom

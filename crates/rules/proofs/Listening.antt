@@ -27,6 +27,7 @@ use Rattle.rules.specs.Access.{bufferOf}
 use Rattle.rules.specs.Turn.{errorOf, wokeOf}
 use Rattle.rules.specs.Bench.{partyOf, seat, wakened}
 use Rattle.rules.specs.Run.{Trace, World, partyIn, takes, traced}
+use Rattle.rules.specs.Stretch.{holdsEpoch}
 use Rattle.rules.proofs.After.{flagsBy}
 use Rattle.rules.proofs.Kept.{flags-are}
 use Rattle.rules.proofs.Seats.{moved, roused, roused-elim}
@@ -35,6 +36,7 @@ use Rattle.rules.proofs.Taken.{turnWorld, seat-own, seat-other}
 use Rattle.rules.proofs.RealTurn.{own-is, access-is, next-step, leads-here, after-turn, turn-is-after}
 use Rattle.rules.proofs.Heard.{Cause, Duty, none, duty, Owed, Good, risen, rungBy, roomBy, wakesAt, setsNone, theirs}
 use Rattle.rules.proofs.Own.{waitsOn, own, Tries, tries}
+use Rattle.rules.proofs.Rings.{owing, pays, holds-on}
 use Rattle.rules.proofs.Costs.{less, ownRoom}
 use Rattle.rules.proofs.Effects.{rung-other, rung-own, room-own-is, room-other-is, flags-still, waits-still, woken-phase}
 use Rattle.rules.proofs.Real.{Phase, phase, sleeps, rungOf, roomIn, Since, Real}
@@ -45,6 +47,11 @@ module _ (P S v : ℕ) (on : Bool) where
   ReadyAt true σ τ w =
       Good (phase (partyIn w σ .step)) (rungOf σ (w .trace)) (roomIn P S v on σ (w .trace)) (stopAt σ (leAt 4 (w .region) flagsAt)) (duty τ (partyIn w τ .step))
   ReadyAt false σ τ w = Tries (partyIn w σ .blocking) (phase (partyIn w σ .step))
+
+  -- one that holds an epoch: the raises of its bell since, with those that the other can still make, are two and some more
+  abbrev pub RungAt : (more : ℕ) → (waiter mover : Side) → World → Type 0
+  RungAt more σ τ w =
+      holdsEpoch (partyIn w σ .step) ≡ true → rungOf σ (w .trace) + owing τ (partyIn w τ .step) (roomIn P S v on σ (w .trace)) ≤ 2 + more
 
 -- equal words are equal counts, where fewer than 2^32 raises lie between
 pub unrung : (e b n : ℕ) → n < 2 ^ 32 → b % 2 ^ 32 ≡ plus 32 e n → b ≡ e → n ≡ 0
@@ -194,3 +201,34 @@ module _ (P S v : ℕ) (on : Bool) (power-ok : powerOk P ≡ true) (slot-ok : sl
   ready-other false rung lands y =
       rw (waiter-is, roused (other side) q (wokeOf (nextSpec p) (errorOf fault)) .blocking)
       (roused-elim (roused (other side) q (wokeOf (nextSpec p) (errorOf fault))) (λ u. Tries (q .blocking) (phase u)) y (λ e. absurd (never (q .blocking) (subst (λ (u : Step). Tries (q .blocking) (phase u)) e y))))
+
+  -- the same two turns, and how often a bell is raised
+  owing-kept : (k : ℕ) → owing (other side) (woken .step) k ≡ owing (other side) (q .step) k
+  owing-kept k =
+      roused-elim (roused (other side) q (wokeOf (nextSpec p) (errorOf fault))) (λ u. owing (other side) u k ≡ owing (other side) (q .step) k) refl (λ e. sym (ap (λ (u : Step). owing (other side) u k) e))
+
+  epoch-zero : s ≡ Epoch → rungOf side (after .trace) ≡ 0
+  epoch-zero e = ap (rungOf side) trace-is ∙ rw e (by side)
+    where
+      by : (side : Side) → rungOf side (traced (nextAt Epoch side (p .counter)) p payload buffer t) ≡ 0
+      by Sender = refl
+      by Recorder = refl
+
+  pub rung-mine : (more : ℕ) → RungAt P S v on more side (other side) w → RungAt P S v on more side (other side) after
+  rung-mine more y =
+      rw (mover-is, waiter-is, owing-kept)
+      (holds-on (other side) _ _ _ _ _ _ s next (leads-here P S v on power-ok slot-ok w real side payload lent fault g) (q .step) (rungOf side t)
+      (rungOf side (after .trace)) (roomIn P S v on side (after .trace)) more epoch-zero
+      (λ u. (
+        ap (rungOf side) trace-is ∙ rung-own p payload buffer t side s u,
+        ap (roomIn P S v on side) trace-is ∙ room-own-is p payload buffer t P S v on r (real .queue) side s (real .sides side .room) ∙ own-room-still s _ u,
+      ))
+      y)
+
+  pub rung-theirs : (more : ℕ) → RungAt P S v on more (other side) side w → RungAt P S v on more (other side) side after
+  rung-theirs more y =
+      rw (mover-is, waiter-is, trace-is, rung-other p payload buffer t side s, room-other-is p payload buffer t P S v on r (real .queue) side s (real .sides side .room))
+      (roused-elim (roused (other side) q (wokeOf (nextSpec p) (errorOf fault)))
+      (λ u. holdsEpoch u ≡ true → rungBy side s (rungOf (other side) t) + owing side next (roomBy s (roomIn P S v on (other side) t)) ≤ 2 + more)
+      (λ h. omega (arith, pays side _ _ _ _ _ _ s next (leads-here P S v on power-ok slot-ok w real side payload lent fault g) (rungOf (other side) t), y h))
+      (λ e h. absurd (let z : _≡_ {A = ℕ} 0 1 = cc in omega arith)))

@@ -23,8 +23,8 @@ use Rattle.types.specs.declared.Party.{Party}
 use Rattle.rules.specs.Calls.{sound, at, named, pushSpec, popSpec, closeSpec, shutSpec}
 use Rattle.rules.specs.Turn.{turnSpec}
 use Rattle.rules.specs.Run.{Note, Trace, World, Happening, plays, partyIn, takes, happens, run, begin}
-use Rattle.rules.specs.Premises.{AllTyped, AllFair, Still, down, closedBit}
-use Rattle.rules.specs.Stretch.{ticks, AllOwn, Willing, inCall, notesOf, Underway, inWait, Turns}
+use Rattle.rules.specs.Premises.{AllTyped, AllFair, AllLand, rung, partings, Still, down, closedBit}
+use Rattle.rules.specs.Stretch.{ticks, AllOwn, Willing, inCall, notesOf, holdsEpoch, Underway, inWait, Turns}
 
 -- how many notes wait: head − tail, in the region's bytes
 abbrev pub waiting : World → ℕ
@@ -101,6 +101,16 @@ module _ (region : List ℕ) (power slot : ℕ) (notfull : Bool) (start : ℕ) w
   abbrev pub NotBoth : Type 0
   NotBoth = (hs : List Happening) → AllTyped hs → ((side : Side) → AllFair side hs (begin (created region power slot notfull start)))
       → partyIn (reached hs) Sender .step ≡ Asleep → partyIn (reached hs) Recorder .step ≡ Asleep → ⊥
+
+  -- the bell's premise: between its look at its bell and its wait a side's bell is raised at most twice, and once more for each
+  -- close and shutdown that the other asks for. So where there are fewer than 2^32 − 2 of these, only the wakes are left to ask
+  abbrev pub SeldomRung : Side → Type 0
+  SeldomRung side = (hs : List Happening) → AllTyped hs → holdsEpoch (partyIn (reached hs) side .step) ≡ true
+      → rung side (reached hs) ≤ 2 + partings (other side) hs
+
+  abbrev pub WakesAlone : Side → Type 0
+  WakesAlone side = (hs : List Happening) → AllTyped hs → 2 + partings (other side) hs < 2 ^ 32
+      → AllLand side hs (begin (created region power slot notfull start)) → AllFair side hs (begin (created region power slot notfull start))
 
   -- T2: the other between calls or asleep and not moving, the party in a push or a pop or between calls, and willing ..
   abbrev pub Going : Side → (hs ms : List Happening) → Type 0

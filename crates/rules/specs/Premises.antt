@@ -3,9 +3,10 @@ use mathlib.Core.Path.{_≡_}
 use mathlib.Core.Bool.{Bool, true}
 use mathlib.Core.List.{List, [], _∷_}
 use mathlib.Core.Logic.{_⊎_}
-use Prim.Native.Nat.{ℕ, _^_, _<_}
+use Prim.Native.Nat.{ℕ, _+_, _^_, _<_}
 use lib.ListN.{length}
 use Rattle.words.specs.Le.{leAt}
+use Rattle.types.specs.Pick.{pick}
 use Rattle.types.specs.declared.Side.{Side}
 use Rattle.types.specs.declared.Side.the-variants.{Sender, Recorder}
 use Rattle.types.specs.declared.Fault.{Fault}
@@ -15,6 +16,7 @@ use Rattle.types.specs.declared.Mark.the-variants.{Shutdown as ShutMark}
 use Rattle.types.specs.declared.Event.the-variants.{Turn, Failing, Spurious, TimeOut, Push, Pop, Close, Shutdown}
 use Rattle.layout.specs.Flags.{worth, bitOn, closeMark}
 use Rattle.layout.specs.Header.{flagsAt}
+use Rattle.rules.specs.Sides.{sameSide}
 use Rattle.rules.specs.Next.{nextSpec}
 use Rattle.rules.specs.Turn.{errorOf, wokeOf}
 use Rattle.rules.specs.Bench.{hears}
@@ -48,27 +50,58 @@ Timely side w = (e : ℕ) → partyIn w side .step ≡ Wait e → rung side w < 
 abbrev pub Lands : (waiter mover : Side) → Fault → World → Type 0
 Lands waiter mover fault w = hears waiter (wokeOf (nextSpec (partyIn w mover)) 0) ≡ true → partyIn w waiter .step ≡ Asleep → errorOf fault ≡ 0
 
-abbrev pub FairTurn : (waiter mover : Side) → Fault → World → Type 0
-FairTurn Sender Sender fault w = Timely Sender w
-FairTurn Sender Recorder fault w = Lands Sender Recorder fault w
-FairTurn Recorder Sender fault w = Lands Recorder Sender fault w
-FairTurn Recorder Recorder fault w = Timely Recorder w
+-- what is asked of the waiter's own turn, and of the other's
+abbrev pub FairTurnBy : (Asked : Side → World → Type 0) → (waiter mover : Side) → Fault → World → Type 0
+FairTurnBy Asked Sender Sender fault w = Asked Sender w
+FairTurnBy Asked Sender Recorder fault w = Lands Sender Recorder fault w
+FairTurnBy Asked Recorder Sender fault w = Lands Recorder Sender fault w
+FairTurnBy Asked Recorder Recorder fault w = Asked Recorder w
 
 -- only a turn that is taken is asked anything
+abbrev pub FairBy : (Asked : Side → World → Type 0) → (waiter : Side) → Happening → World → Type 0
+FairBy Asked side (attaches mover) w = Unit
+FairBy Asked side (plays (Turn mover) payload lent) w = takes w mover payload lent Fine ≡ true → FairTurnBy Asked side mover Fine w
+FairBy Asked side (plays (Failing mover error) payload lent) w = takes w mover payload lent (Error error) ≡ true → FairTurnBy Asked side mover (Error error) w
+FairBy Asked side (plays (Spurious mover) payload lent) w = Unit
+FairBy Asked side (plays (TimeOut mover) payload lent) w = Unit
+FairBy Asked side (plays (Push blocking tag length) payload lent) w = Unit
+FairBy Asked side (plays (Pop blocking length) payload lent) w = Unit
+FairBy Asked side (plays (Close mover) payload lent) w = Unit
+FairBy Asked side (plays (Shutdown mover) payload lent) w = Unit
+
+abbrev pub AllFairBy : (Asked : Side → World → Type 0) → (waiter : Side) → List Happening → World → Type 0
+AllFairBy Asked side [] w = Unit
+AllFairBy Asked side (h ∷ hs) w = FairBy Asked side h w × AllFairBy Asked side hs (happens h w)
+
+-- both premises
+abbrev pub FairTurn : (waiter mover : Side) → Fault → World → Type 0
+FairTurn = FairTurnBy Timely
+
 abbrev pub Fair : (waiter : Side) → Happening → World → Type 0
-Fair side (attaches mover) w = Unit
-Fair side (plays (Turn mover) payload lent) w = takes w mover payload lent Fine ≡ true → FairTurn side mover Fine w
-Fair side (plays (Failing mover error) payload lent) w = takes w mover payload lent (Error error) ≡ true → FairTurn side mover (Error error) w
-Fair side (plays (Spurious mover) payload lent) w = Unit
-Fair side (plays (TimeOut mover) payload lent) w = Unit
-Fair side (plays (Push blocking tag length) payload lent) w = Unit
-Fair side (plays (Pop blocking length) payload lent) w = Unit
-Fair side (plays (Close mover) payload lent) w = Unit
-Fair side (plays (Shutdown mover) payload lent) w = Unit
+Fair = FairBy Timely
 
 abbrev pub AllFair : (waiter : Side) → List Happening → World → Type 0
-AllFair side [] w = Unit
-AllFair side (h ∷ hs) w = Fair side h w × AllFair side hs (happens h w)
+AllFair = AllFairBy Timely
+
+-- the wakes alone
+abbrev pub AllLand : (waiter : Side) → List Happening → World → Type 0
+AllLand = AllFairBy (λ side w. Unit)
+
+-- closes and shutdowns that a side asks for: these alone ring without a look at the ring, so only they can ring a waiter often
+abbrev pub parting : Side → Happening → ℕ
+parting side (attaches mover) = 0
+parting side (plays (Turn mover) payload lent) = 0
+parting side (plays (Failing mover error) payload lent) = 0
+parting side (plays (Spurious mover) payload lent) = 0
+parting side (plays (TimeOut mover) payload lent) = 0
+parting side (plays (Push blocking tag length) payload lent) = 0
+parting side (plays (Pop blocking length) payload lent) = 0
+parting side (plays (Close mover) payload lent) = pick (sameSide side mover) 1 0
+parting side (plays (Shutdown mover) payload lent) = pick (sameSide side mover) 1 0
+
+abbrev pub partings : Side → List Happening → ℕ
+partings side [] = 0
+partings side (h ∷ hs) = parting side h + partings side hs
 
 -- a party between calls or asleep
 abbrev pub Still : Side → World → Type 0
