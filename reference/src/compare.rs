@@ -3,6 +3,7 @@
 use std::io::Read;
 
 use crate::answer::Answer;
+use crate::bench::Bench;
 use crate::party::{Side, Step};
 use crate::script::{Kind, Player, Record, CUT_REPORT, RECORD};
 use crate::stream::{Piece, Records, Trouble};
@@ -14,8 +15,8 @@ pub struct Pair {
     pub number: u64,
     pub asked: Option<Piece>,
     pub found: Option<Piece>,
+    pub answer: Answer,
     kind: u8,
-    answer: Answer,
     report: [u8; RECORD],
 }
 
@@ -105,15 +106,18 @@ pub struct Pairs<S, R> {
     report: Records<R>,
     player: Player,
     number: u64,
+    before: Bench,
     woken: Option<Side>,
 }
 
 impl<S: Read, R: Read> Pairs<S, R> {
     pub fn new(script: S, report: R) -> Self {
+        let player = Player::new();
         Pairs {
             script: Records::new(script),
             report: Records::new(report),
-            player: Player::new(),
+            before: *player.bench(),
+            player,
             number: 0,
             woken: None,
         }
@@ -133,6 +137,7 @@ impl<S: Read, R: Read> Pairs<S, R> {
             return Ok(None);
         }
         self.number += 1;
+        self.before = *self.player.bench();
         self.woken = None;
         let mut pair = Pair {
             number: self.number,
@@ -144,7 +149,6 @@ impl<S: Read, R: Read> Pairs<S, R> {
         };
         if let Some(bytes) = asked.as_ref().and_then(Piece::whole) {
             let record = Record::from_bytes(bytes);
-            let before = *self.player.bench();
             pair.kind = record.kind;
             pair.answer = self.player.answer(&record);
             pair.report = self.player.report(record.kind, pair.answer);
@@ -152,7 +156,7 @@ impl<S: Read, R: Read> Pairs<S, R> {
             self.woken = Kind::of_number(record.kind)
                 .map(|kind| kind.side().other())
                 .filter(|&side| {
-                    before.party(side).step == Step::Asleep
+                    self.before.party(side).step == Step::Asleep
                         && self.player.bench().party(side).step != Step::Asleep
                 });
         }
@@ -185,6 +189,15 @@ pub enum Verdict {
 /// Plays the script and stops at the first record of the report that differs. A missing or an
 /// extra record is a difference too.
 pub fn compare(script: impl Read, report: impl Read) -> Result<Verdict, Trouble> {
+    compare_with(script, report, |_, _, _| {})
+}
+
+/// The same, and shows each pair that agrees, with both parties before it and after it.
+pub fn compare_with(
+    script: impl Read,
+    report: impl Read,
+    mut show: impl FnMut(&Pair, &Bench, &Bench),
+) -> Result<Verdict, Trouble> {
     let mut pairs = Pairs::new(script, report);
     while let Some(pair) = pairs.next_pair()? {
         if !pair.agrees() {
@@ -192,6 +205,7 @@ pub fn compare(script: impl Read, report: impl Read) -> Result<Verdict, Trouble>
                 line: pair.difference(),
             });
         }
+        show(&pair, &pairs.before, pairs.player.bench());
     }
     Ok(Verdict::Same {
         records: pairs.number,

@@ -2,7 +2,8 @@
 //!
 //! One lent region of bytes, two parties, and turns that make at most one shared access each.
 //! The rules stand in `header`, `region`, `party`, `turn` and `bench`; the script program and
-//! its tools in `script`, `stream`, `random`, `text`, `words`, `compare` and `readout`.
+//! its tools in `script`, `stream`, `random`, `text`, `words`, `compare` and `readout`. `rounds`
+//! holds another script program to this one, and `coverage` says what was played with it.
 //!
 //! Where document 01 is silent, this package decides as follows.
 //!
@@ -28,11 +29,14 @@
 pub mod answer;
 pub mod bench;
 pub mod compare;
+pub mod coverage;
+pub mod dice;
 pub mod header;
 pub mod party;
 pub mod random;
 pub mod readout;
 pub mod region;
+pub mod rounds;
 pub mod script;
 pub mod stream;
 pub mod text;

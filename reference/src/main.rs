@@ -6,7 +6,9 @@ use std::io::{self, BufWriter, ErrorKind, Read, Write};
 use std::process::ExitCode;
 
 use reference::compare::{compare, Verdict};
+use reference::coverage::Coverage;
 use reference::random::Generator;
+use reference::rounds::{self, rounds, Played};
 use reference::stream::{play, Trouble};
 use reference::{readout, text};
 
@@ -18,10 +20,19 @@ usage:
       plays a script of 32-byte records and writes a report record for each
   reference random SEED COUNT > SCRIPT
       writes COUNT random records, the same for the same SEED; with an even SEED
-      no close and no shutdown, with an odd one late and rarely
+      no close and no shutdown, with an odd one late and rarely, or, where SEED is
+      3 above a multiple of 4, anywhere
   reference compare SCRIPT REPORT
       plays the script; says `same, N records`, or the first record (counted
       from 1) of the report that differs, and then ends with status 1
+  reference rounds PROGRAM [ROUNDS RECORDS]
+      plays scripts through PROGRAM, which reads a script and writes a report: the
+      tours, then the random scripts of the seeds 0 to ROUNDS - 1 (320), of RECORDS
+      records (1250) and SEED mod 32 bytes. Stops at the first record that differs,
+      with status 1. Writes a table of what was played; a gap in it is status 1 too
+  reference tour NUMBER > SCRIPT
+      writes a tour; tours 0, 1 and so on play, together, every way that a record
+      can go, found by a walk through all states of the script program
   reference write < TEXT > SCRIPT
       makes a script of lines:
           push [try|blocking] TAG [length N] \"TEXT\"     pop [try|blocking] LENGTH
@@ -50,11 +61,24 @@ fn main() -> ExitCode {
             (Some(seed), Some(count)) => random(seed, count),
             _ => return usage("SEED and COUNT are whole numbers from 0 to 2^64 - 1"),
         },
+        ("tour", [index]) => match number(index) {
+            Some(index) => tour(index),
+            None => return usage("NUMBER is a whole number from 0 to 2^64 - 1"),
+        },
         ("compare", [script, report]) => compare_files(script, report),
+        ("rounds", [program]) => play_rounds(program, rounds::ROUNDS, rounds::RECORDS),
+        ("rounds", [program, count, records]) => match (number(count), number(records)) {
+            (Some(count), Some(records)) => play_rounds(program, count, records),
+            _ => return usage("ROUNDS and RECORDS are whole numbers from 0 to 2^64 - 1"),
+        },
         ("write", []) => write(),
         ("read", [script, report]) => read_files(script, report),
         ("help" | "--help" | "-h", []) => say(USAGE),
-        ("play" | "random" | "compare" | "write" | "read" | "help" | "--help" | "-h", _) => {
+        (
+            "play" | "random" | "compare" | "rounds" | "tour" | "write" | "read" | "help"
+            | "--help" | "-h",
+            _,
+        ) => {
             return usage(&format!(
                 "these are not the arguments that `{command}` takes"
             ));
@@ -119,6 +143,31 @@ fn compare_files(script: &OsStr, report: &OsStr) -> Outcome {
             say(&format!("{line}\n"))?;
             Ok(ExitCode::FAILURE)
         }
+    }
+}
+
+fn play_rounds(program: &OsStr, count: u64, records: u64) -> Outcome {
+    let played = rounds(program, count, records)?;
+    say(&played.coverage.table())?;
+    let faults = played.coverage.faults();
+    if !faults.is_empty() {
+        return Err(format!("the table has gaps\n{}", faults.join("\n")));
+    }
+    let Played {
+        scripts, records, ..
+    } = played;
+    say(&format!("same, {records} records in {scripts} scripts\n"))
+}
+
+fn tour(number: u64) -> Outcome {
+    let tours = Coverage::new().tours();
+    let index = usize::try_from(number).ok();
+    match index.and_then(|index| tours.get(index)) {
+        Some(script) => give(script, "write the script"),
+        None => Err(format!(
+            "there is no tour {number}, the last is {}",
+            tours.len() - 1
+        )),
     }
 }
 

@@ -2,47 +2,13 @@
 //!
 //! The generator plays what it writes, so that it can ask mostly for what makes sense: calls
 //! go on to their end, rings fill and run dry, sleepers are woken. Among these it strews what
-//! must be refused. Scripts of an even seed hold no close and no shutdown; those of an odd
-//! seed hold them late and rarely, since little happens after them.
+//! must be refused. Scripts of an even seed hold no close and no shutdown. Those of an odd seed
+//! hold them late and rarely, since little happens after them; but every other odd seed, 3
+//! above a multiple of 4, makes a wild script, in which anything is asked at any step.
 
+use crate::dice::Dice;
 use crate::party::{CloseTurn, ShutTurn, Side, Step};
 use crate::script::{Kind, Player, Record, RECORD};
-
-/// The splitmix64 generator.
-#[derive(Clone, Debug)]
-pub struct Dice(u64);
-
-impl Dice {
-    pub fn new(seed: u64) -> Self {
-        Dice(seed)
-    }
-
-    pub fn roll(&mut self) -> u64 {
-        self.0 = self.0.wrapping_add(0x9E37_79B9_7F4A_7C15);
-        let mut z = self.0;
-        z = (z ^ (z >> 30)).wrapping_mul(0xBF58_476D_1CE4_E5B9);
-        z = (z ^ (z >> 27)).wrapping_mul(0x94D0_49BB_1331_11EB);
-        z ^ (z >> 31)
-    }
-
-    /// A number from 0 to `limit` − 1.
-    pub fn below(&mut self, limit: u64) -> u64 {
-        ((u128::from(self.roll()) * u128::from(limit)) >> 64) as u64
-    }
-
-    /// True `percent` times out of a hundred.
-    pub fn percent(&mut self, percent: u64) -> bool {
-        self.below(100) < percent
-    }
-
-    fn side(&mut self) -> Side {
-        if self.percent(50) {
-            Side::Sender
-        } else {
-            Side::Recorder
-        }
-    }
-}
 
 /// How a stretch of the script leans, in percent. A stretch in which the sender is much faster
 /// fills the ring; one in which the recorder is much faster lets it sleep.
@@ -53,12 +19,20 @@ struct Mood {
     failing: u64,
 }
 
+/// Where a script may close and shut down.
+#[derive(Clone, Copy, PartialEq, Eq)]
+enum Ends {
+    Never,
+    Late,
+    Anywhere,
+}
+
 /// Writes the records of one random script.
 pub struct Generator {
     dice: Dice,
     player: Player,
     mood: Mood,
-    with_ends: bool,
+    ends: Ends,
     written: u64,
     count: u64,
 }
@@ -75,7 +49,11 @@ impl Generator {
                 blocking: 50,
                 failing: 10,
             },
-            with_ends: seed % 2 == 1,
+            ends: match seed % 4 {
+                1 => Ends::Late,
+                3 => Ends::Anywhere,
+                _ => Ends::Never,
+            },
             written: 0,
             count,
         }
@@ -105,6 +83,9 @@ impl Generator {
         } else {
             Side::Recorder
         };
+        if self.ends == Ends::Anywhere && self.dice.percent(50) {
+            return self.anything(side);
+        }
         self.sensible(side)
     }
 
@@ -137,16 +118,27 @@ impl Generator {
         self.player.bench().party(side).step
     }
 
-    fn at_rest(&mut self, side: Side) -> Record {
+    /// A close or a shutdown for a party at rest, if it is time for one.
+    fn end(&mut self, side: Side) -> Option<Record> {
         // Late: in the last half or quarter, and among the last few hundred records of a long
-        // script, since after both closes all is refused.
+        // script, since after both closes all is refused. Anywhere: a few of each in a script
+        // of any length.
         let left = self.count - self.written;
-        let late = |share: u64, most: u64| left <= (self.count / share).min(most);
-        if self.with_ends && late(4, 200) && self.dice.below(32) == 0 {
-            return Record::new(Kind::Close(side));
+        let (count, dice) = (self.count, &mut self.dice);
+        let mut due = |share: u64, most: u64, odds: u64| match self.ends {
+            Ends::Never => false,
+            Ends::Late => left <= (count / share).min(most) && dice.below(odds) == 0,
+            Ends::Anywhere => dice.below(count) < 10,
+        };
+        if due(4, 200, 32) {
+            return Some(Record::new(Kind::Close(side)));
         }
-        if self.with_ends && late(2, 400) && self.dice.below(64) == 0 {
-            return Record::new(Kind::Shutdown(side));
+        due(2, 400, 64).then(|| Record::new(Kind::Shutdown(side)))
+    }
+
+    fn at_rest(&mut self, side: Side) -> Record {
+        if let Some(record) = self.end(side) {
+            return record;
         }
         match self.dice.below(100) {
             0 | 1 => self.turn(side),
@@ -214,6 +206,10 @@ impl Generator {
         if !self.dice.percent(failing) {
             return Record::new(Kind::Turn(side));
         }
+        self.failing_turn(side)
+    }
+
+    fn failing_turn(&mut self, side: Side) -> Record {
         let mut record = Record::new(Kind::FailingTurn(side));
         record.error = match self.dice.below(12) {
             0 => 0,
@@ -225,6 +221,28 @@ impl Generator {
             _ => self.dice.below(0x1_0000) as u16,
         };
         record
+    }
+
+    /// Any event, whatever step the party stands at.
+    fn anything(&mut self, side: Side) -> Record {
+        let rests = self.step(side) == Step::Rest;
+        match self.dice.below(20) {
+            0..=2 => self.odd(),
+            3 => {
+                let mut record = self.call(side);
+                record.length = [25, 0xFFFF][self.dice.below(2) as usize];
+                record
+            }
+            4 => Record::new(Kind::Spurious(side)),
+            5 => Record::new(Kind::TimeOut(side)),
+            // A party at rest would take it up, and too many of these leave little else.
+            6 if !rests => Record::new(Kind::Close(side)),
+            7 if !rests => Record::new(Kind::Shutdown(side)),
+            6 | 7 => self.at_rest(side),
+            8 | 9 => self.call(side),
+            10..=14 => self.failing_turn(side),
+            _ => Record::new(Kind::Turn(side)),
+        }
     }
 
     /// Something that is mostly refused: unknown kinds and modes, lengths and kinds at random.

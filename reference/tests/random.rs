@@ -123,3 +123,21 @@ fn scripts_hold_everything() {
     // 6 + 5 steps, at rest, asleep, 3 turns of close and 5 of shutdown, for each side.
     assert_eq!(steps.len(), 2 * (6 + 5 + 2 + 3 + 5), "{steps:?}");
 }
+
+/// Seeds 3 above a multiple of 4 close and shut down anywhere, other odd ones late.
+#[test]
+fn ends_come_late_or_anywhere() {
+    let early_ends = |seed: u64| {
+        let first_half = Generator::new(seed, 1000).take(500);
+        first_half
+            .filter(|bytes| (10..=13).contains(&bytes[0]))
+            .count()
+    };
+    let total = |rest: u64| {
+        (0..40)
+            .map(|index| early_ends(4 * index + rest))
+            .sum::<usize>()
+    };
+    assert_eq!(total(1), 0);
+    assert!(total(3) > 40);
+}

@@ -1,0 +1,138 @@
+//! What a run of scripts has played: every step against every event, and every way through the
+//! rules, held to those that there are.
+//!
+//! The ways that there are come from a walk through all states (`reach`), and no list of them
+//! is kept by hand. A run must play them all, and it may play no other: so a walk that missed
+//! a way is found out as well.
+
+pub mod event;
+pub mod reach;
+pub mod strays;
+pub mod tour;
+pub mod way;
+
+use std::collections::{BTreeMap, HashMap, HashSet};
+
+use crate::answer::{name_of, Answer};
+use crate::bench::Bench;
+use crate::party::Side;
+use crate::script::Record;
+
+use event::Event;
+use reach::{reach, Reach};
+use strays::Strays;
+use way::{Place, Way};
+
+/// How often each thing was played.
+pub struct Coverage {
+    reach: Reach,
+    seen: HashMap<Way, u64>,
+    answers: BTreeMap<u8, u64>,
+    strays: Strays,
+}
+
+impl Default for Coverage {
+    fn default() -> Self {
+        Coverage::new()
+    }
+}
+
+impl Coverage {
+    /// Nothing played yet. The walk through all states is made here.
+    pub fn new() -> Self {
+        let reach = reach();
+        Coverage {
+            answers: reach.ways.iter().map(|way| (way.answer, 0)).collect(),
+            reach,
+            seen: HashMap::new(),
+            strays: Strays::new(),
+        }
+    }
+
+    /// Scripts that together play every way that there is.
+    pub fn tours(&self) -> Vec<Vec<u8>> {
+        tour::tours(&self.reach)
+    }
+
+    pub fn count(&mut self, record: &Record, answer: Answer, before: &Bench, after: &Bench) {
+        for way in Way::of(record, answer, before, after) {
+            *self.seen.entry(way).or_default() += 1;
+        }
+        *self.answers.entry(answer.number()).or_default() += 1;
+        self.strays.count(record);
+    }
+
+    /// Counts a cut last record of so many bytes.
+    pub fn count_cut(&mut self, length: usize) {
+        self.strays.count_cut(length);
+    }
+
+    /// What should have been played and was not, and what was played that the walk through all
+    /// states did not find.
+    pub fn faults(&self) -> Vec<String> {
+        let all: HashSet<&Way> = self.reach.ways.iter().collect();
+        let seen: HashSet<&Way> = self.seen.keys().collect();
+        let line = |what: &str, way: &Way| format!("{what}: {}", way.words());
+        let missing = all.difference(&seen).map(|way| line("not played", way));
+        let strange = seen
+            .difference(&all)
+            .map(|way| line("played, but held for unreachable", way));
+        let mut faults: Vec<String> = missing.chain(strange).collect();
+        faults.sort();
+        faults.extend(
+            self.strays
+                .missing()
+                .map(|what| format!("not played: {what}")),
+        );
+        faults
+    }
+
+    /// The table, and lines under it for what has no place in it. A pair that cannot be reached
+    /// is marked -, and one that was not played !.
+    pub fn table(&self) -> String {
+        let mut pairs: HashMap<(Place, Event), u64> = HashMap::new();
+        for way in &self.reach.ways {
+            pairs.entry((way.from, way.event)).or_default();
+        }
+        for (way, count) in &self.seen {
+            *pairs.entry((way.from, way.event)).or_default() += count;
+        }
+        let mut table = String::new();
+        for side in [Side::Sender, Side::Recorder] {
+            let heads = Event::ALL.map(|event| event.name().to_string());
+            table.push_str(&row(side.name(), &heads));
+            for place in Place::all(side) {
+                let cells = Event::ALL.map(|event| match pairs.get(&(place, event)) {
+                    None => "-".into(),
+                    Some(0) => "!".into(),
+                    Some(count) => count.to_string(),
+                });
+                table.push_str(&row(&place.name(), &cells));
+            }
+        }
+        table + &self.ways_line() + &self.answers_line() + &self.strays.lines()
+    }
+
+    fn answers_line(&self) -> String {
+        let words = |(&answer, count): (&u8, &u64)| {
+            format!("{answer} {} {count}", name_of(answer).unwrap_or("unknown"))
+        };
+        let words: Vec<String> = self.answers.iter().map(words).collect();
+        format!("answers: {}\n", words.join(", "))
+    }
+
+    fn ways_line(&self) -> String {
+        let played = |way: &&Way| self.seen.contains_key(way);
+        format!(
+            "ways (step, event, answer, next step, wake): {} of {}, from {} states\n",
+            self.reach.ways.iter().filter(played).count(),
+            self.reach.ways.len(),
+            self.reach.states.len()
+        )
+    }
+}
+
+fn row(head: &str, cells: &[String]) -> String {
+    let cells: String = cells.iter().map(|cell| format!(" {cell:>7}")).collect();
+    format!("{head:<24}{cells}\n")
+}
