@@ -2,28 +2,29 @@
 //! ones. Each is a line of shell around the reference's own `play`.
 #![cfg(unix)]
 
-use std::fs;
-use std::os::unix::fs::PermissionsExt;
+mod tools;
+
 use std::path::PathBuf;
 use std::process::{Command, Output};
+
+use tools::{executable, output};
 
 const REFERENCE: &str = env!("CARGO_BIN_EXE_reference");
 
 fn program(name: &str, line: &str) -> PathBuf {
     let path = PathBuf::from(env!("CARGO_TARGET_TMPDIR")).join(name);
     let line = line.replace("PLAY", &format!("'{REFERENCE}' play"));
-    fs::write(&path, format!("#!/bin/sh\n{line}\n")).unwrap();
-    fs::set_permissions(&path, fs::Permissions::from_mode(0o755)).unwrap();
+    executable(&path, &line);
     path
 }
 
 fn rounds(name: &str, line: &str, numbers: &[&str]) -> Output {
-    Command::new(REFERENCE)
-        .arg("rounds")
-        .arg(program(name, line))
-        .args(numbers)
-        .output()
-        .unwrap()
+    output(
+        Command::new(REFERENCE)
+            .arg("rounds")
+            .arg(program(name, line))
+            .args(numbers),
+    )
 }
 
 /// What a run that must fail says.
@@ -104,10 +105,7 @@ fn a_program_that_fails_is_told() {
     assert!(message.contains("exit status: 3"), "{message}");
     let message = refused("deaf", "exit 0");
     assert!(message.contains("record 1 differs"), "{message}");
-    let output = Command::new(REFERENCE)
-        .args(["rounds", "./no such program"])
-        .output()
-        .unwrap();
+    let output = output(Command::new(REFERENCE).args(["rounds", "./no such program"]));
     assert_eq!(output.status.code(), Some(1));
     let message = String::from_utf8(output.stderr).unwrap();
     assert!(

@@ -1,0 +1,151 @@
+//! The gate's own logic, with stand-ins for the tools that it calls: whatever fails, it fails,
+//! and its last line speaks of passes only when all has passed.
+#![cfg(unix)]
+
+mod tools;
+
+use std::fs;
+use std::path::PathBuf;
+use std::process::Command;
+
+use tools::{executable, output};
+
+const GATE: &str = concat!(env!("CARGO_MANIFEST_DIR"), "/../.ci/run");
+const PROVED: &str = "printf 'one proved\\ntwo proved\\n7 passed, 0 failed\\n'";
+
+/// What the tools do; each is a line of shell.
+struct Tools {
+    format: &'static str,
+    prove: &'static str,
+    tests: &'static str,
+    rounds: &'static str,
+    show: &'static str,
+}
+
+const GOOD: Tools = Tools {
+    format: "exit 0",
+    prove: PROVED,
+    tests: "exit 0",
+    rounds: "echo 'same, 9 records in 1 scripts'",
+    show: "echo 'what one.txt reads as'",
+};
+
+fn folder(name: &str, tools: &Tools) -> PathBuf {
+    let folder = PathBuf::from(env!("CARGO_TARGET_TMPDIR")).join(format!("gate-{name}"));
+    for part in [".ci", "bin", "scripts"] {
+        fs::create_dir_all(folder.join(part)).unwrap();
+    }
+    fs::write(folder.join(".ci/run"), fs::read(GATE).unwrap()).unwrap();
+    let rt = format!(
+        "case \"$*\" in\n'fmt --check') {} ;;\nci) {} ;;\n*) exit 99 ;;\nesac",
+        tools.format, tools.prove
+    );
+    executable(&folder.join("bin/rt"), &rt);
+    let cargo = format!(
+        "case $1 in\ntest) {} ;;\nbuild) exit 0 ;;\nrun) {} ;;\n*) exit 99 ;;\nesac",
+        tools.tests, tools.rounds
+    );
+    executable(&folder.join("bin/cargo"), &cargo);
+    executable(&folder.join("scripts/show"), tools.show);
+    fs::write(folder.join("scripts/one.txt"), "").unwrap();
+    fs::write(folder.join("scripts/one.read"), "what one.txt reads as\n").unwrap();
+    folder
+}
+
+/// The gate's status and the lines of its standard output.
+fn gate(name: &str, tools: &Tools) -> (Option<i32>, Vec<String>) {
+    let folder = folder(name, tools);
+    let path = std::env::var("PATH").unwrap();
+    let output = output(
+        Command::new("bash")
+            .arg(folder.join(".ci/run"))
+            .env("PATH", format!("{}:{path}", folder.join("bin").display())),
+    );
+    let lines = String::from_utf8(output.stdout).unwrap();
+    let lines = lines.lines().map(String::from).collect();
+    (output.status.code(), lines)
+}
+
+/// The lines of a gate that must fail with this status.
+fn failed(name: &str, status: i32, tools: &Tools) -> Vec<String> {
+    let (found, lines) = gate(name, tools);
+    assert_eq!(found, Some(status), "{name}: {lines:?}");
+    assert_eq!(lines.last().unwrap(), "gate: FAILED", "{name}");
+    lines
+}
+
+#[test]
+fn all_passes() {
+    let (status, lines) = gate("good", &GOOD);
+    assert_eq!(status, Some(0));
+    let expected = [
+        "one proved",
+        "two proved",
+        "same, 9 records in 1 scripts",
+        "7 passed, 0 failed",
+    ];
+    assert_eq!(lines, expected);
+}
+
+#[test]
+fn a_last_line_without_its_end_is_not_lost() {
+    let prove = "printf 'one proved\\n7 passed, 0 failed'";
+    let (status, lines) = gate("unended", &Tools { prove, ..GOOD });
+    assert_eq!(status, Some(0));
+    assert_eq!(lines.last().unwrap(), "7 passed, 0 failed");
+}
+
+/// The count of a failed proof is shown, and nothing is compared any more.
+#[test]
+fn a_proof_that_fails_fails_the_gate() {
+    let prove = "printf 'one proved\\n6 passed, 1 failed\\n'; exit 1";
+    let lines = failed("refused", 1, &Tools { prove, ..GOOD });
+    assert_eq!(lines, ["one proved", "6 passed, 1 failed", "gate: FAILED"]);
+    let prove = "printf 'one proved\\n7 passed, 0 failed\\n'; exit 3";
+    failed("untold", 3, &Tools { prove, ..GOOD });
+    let prove = "echo one proved; kill -9 $$";
+    let lines = failed("killed", 128 + 9, &Tools { prove, ..GOOD });
+    assert_eq!(lines, ["one proved", "gate: FAILED"]);
+    let prove = "exit 2";
+    failed("silent", 2, &Tools { prove, ..GOOD });
+}
+
+#[test]
+fn whatever_fails_fails_the_gate() {
+    let bad = "exit 1";
+    let cases = [
+        (
+            "format",
+            Tools {
+                format: bad,
+                ..GOOD
+            },
+        ),
+        ("tests", Tools { tests: bad, ..GOOD }),
+        (
+            "rounds",
+            Tools {
+                rounds: bad,
+                ..GOOD
+            },
+        ),
+        (
+            "differs",
+            Tools {
+                show: "echo 'something else'",
+                ..GOOD
+            },
+        ),
+        (
+            "show",
+            Tools {
+                show: "echo 'what one.txt reads as'; exit 1",
+                ..GOOD
+            },
+        ),
+    ];
+    for (name, tools) in cases {
+        let lines = failed(name, 1, &tools);
+        assert!(!lines.iter().any(|line| line.contains("passed")), "{name}");
+    }
+}
