@@ -133,35 +133,58 @@ fn count(coverage: &mut Coverage, pair: &Pair, before: &Bench, after: &Bench) {
     }
 }
 
-/// What a run without a difference has played.
+/// What has been played without a difference.
 pub struct Played {
     pub scripts: u64,
     pub records: u64,
     pub coverage: Coverage,
 }
 
+impl Played {
+    fn round<S: Read>(
+        &mut self,
+        program: &OsStr,
+        script: impl Fn() -> S + Sync,
+        size: u64,
+    ) -> Result<(), String> {
+        self.records += round(program, script, size, &mut self.coverage)?;
+        self.scripts += 1;
+        Ok(())
+    }
+
+    fn tours(&mut self, program: &OsStr) -> Result<(), String> {
+        for (number, tour) in self.coverage.tours().iter().enumerate() {
+            self.round(program, || &tour[..], SMALL)
+                .map_err(|message| format!("tour {number}: {message}"))?;
+        }
+        Ok(())
+    }
+
+    fn random(&mut self, program: &OsStr, seeds: u64, count: u64) -> Result<(), String> {
+        for seed in 0..seeds {
+            // Odd numbers, so that pieces end in the middle of records.
+            let size = SMALL + 978 * (seed % 65);
+            self.round(program, || Script::new(seed, count), size)
+                .map_err(|message| {
+                    let cut = cut(seed);
+                    format!(
+                        "random script of seed {seed}, {count} records and {cut} bytes: {message}"
+                    )
+                })?;
+        }
+        Ok(())
+    }
+}
+
 /// Plays the tours, then the random scripts of the seeds 0, 1, 2 and so on, each of `count`
 /// records and a cut one, up to the first difference.
 pub fn rounds(program: &OsStr, seeds: u64, count: u64) -> Result<Played, String> {
-    let mut coverage = Coverage::new();
-    let tours = coverage.tours();
-    let mut records = 0;
-    for (number, tour) in tours.iter().enumerate() {
-        records += round(program, || &tour[..], SMALL, &mut coverage)
-            .map_err(|message| format!("tour {number}: {message}"))?;
-    }
-    for seed in 0..seeds {
-        // Odd numbers, so that pieces end in the middle of records.
-        let size = SMALL + seed * 978 % 64_000;
-        let script = || Script::new(seed, count);
-        records += round(program, script, size, &mut coverage).map_err(|message| {
-            let cut = cut(seed);
-            format!("random script of seed {seed}, {count} records and {cut} bytes: {message}")
-        })?;
-    }
-    Ok(Played {
-        scripts: seeds + tours.len() as u64,
-        records,
-        coverage,
-    })
+    let mut played = Played {
+        scripts: 0,
+        records: 0,
+        coverage: Coverage::new(),
+    };
+    played.tours(program)?;
+    played.random(program, seeds, count)?;
+    Ok(played)
 }

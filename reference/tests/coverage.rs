@@ -88,7 +88,7 @@ fn no_random_script_leaves_the_known_ways() {
 #[test]
 fn gaps_are_shown() {
     let mut coverage = Coverage::new();
-    let marks = |coverage: &Coverage| coverage.table().matches(" !").count();
+    let marks = |coverage: &Coverage| coverage.table().matches("      !").count();
     assert_eq!(marks(&coverage), 42 * Event::ALL.len());
     let mut push = [0; RECORD];
     push[0] = 8;

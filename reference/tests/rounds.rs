@@ -113,3 +113,33 @@ fn a_program_that_fails_is_told() {
         "{message}"
     );
 }
+
+#[test]
+fn bad_arguments_have_status_two() {
+    for arguments in [
+        &["rounds"][..],
+        &["rounds", "./play", "3"],
+        &["rounds", "./play", "three", "3"],
+        &["rounds", "./play", "3", "-3"],
+        &["tour"],
+        &["tour", "first"],
+        &["tour", "1", "2"],
+    ] {
+        let output = output(Command::new(REFERENCE).args(arguments));
+        assert_eq!(output.status.code(), Some(2), "{arguments:?}");
+        let message = String::from_utf8(output.stderr).unwrap();
+        assert!(message.contains("usage:"), "{message}");
+    }
+}
+
+/// A tour is whole records, and the numbers end somewhere.
+#[test]
+fn a_tour_is_written() {
+    let first = output(Command::new(REFERENCE).args(["tour", "0"]));
+    assert!(first.status.success());
+    assert!(!first.stdout.is_empty() && first.stdout.len().is_multiple_of(32));
+    let beyond = output(Command::new(REFERENCE).args(["tour", "1000000"]));
+    assert_eq!(beyond.status.code(), Some(1));
+    let message = String::from_utf8(beyond.stderr).unwrap();
+    assert!(message.contains("there is no tour 1000000"), "{message}");
+}

@@ -75,7 +75,7 @@ impl Event {
         }
     }
 
-    /// The column's head; a call is a push or a pop as the row's side can.
+    /// The column's head, as `LEGEND` tells it.
     pub fn name(self) -> &'static str {
         match self {
             Event::Try => "try",
@@ -85,13 +85,13 @@ impl Event {
             Event::Close => "close",
             Event::Shutdown => "shut",
             Event::Turn => "turn",
-            Event::FailsZero => "fails 0",
-            Event::FailsInterrupted => "4",
-            Event::FailsAgain => "11",
-            Event::FailsTimedOut => "110",
-            Event::FailsElse => "else",
+            Event::FailsZero => "err 0",
+            Event::FailsInterrupted => "err 4",
+            Event::FailsAgain => "err 11",
+            Event::FailsTimedOut => "err 110",
+            Event::FailsElse => "err n",
             Event::Spurious => "spur",
-            Event::TimeOut => "time",
+            Event::TimeOut => "t-out",
             Event::UnknownKind => "kind?",
         }
     }
@@ -132,6 +132,14 @@ impl Event {
         }
     }
 }
+
+/// What the columns' heads stand for.
+pub const LEGEND: &str = "\
+How often each event was asked at each step. try, block: a push or pop of 0 to 24 bytes; mode?: of
+an unknown mode; long: of more bytes; close, shut: a close or shutdown; turn: a turn; err E: a turn
+whose futex call fails with E, n being any other; spur, t-out: a spurious return or time-out; kind?:
+a record of an unknown kind, which counts at both parties' steps. -: cannot be, !: was not played.
+";
 
 /// The length of every note in `examples`.
 const NOTE: u16 = 1;

@@ -18,7 +18,7 @@ use crate::bench::Bench;
 use crate::party::Side;
 use crate::script::Record;
 
-use event::Event;
+use event::{Event, LEGEND};
 use reach::{reach, Reach};
 use strays::Strays;
 use way::{Place, Way};
@@ -87,28 +87,32 @@ impl Coverage {
         faults
     }
 
-    /// The table, and lines under it for what has no place in it. A pair that cannot be reached
-    /// is marked -, and one that was not played !.
-    pub fn table(&self) -> String {
-        let mut pairs: HashMap<(Place, Event), u64> = HashMap::new();
-        for way in &self.reach.ways {
-            pairs.entry((way.from, way.event)).or_default();
-        }
-        for (way, count) in &self.seen {
+    /// How often each event was asked at each step; a pair that cannot be has no place here.
+    fn pairs(&self) -> HashMap<(Place, Event), u64> {
+        let reachable = self.reach.ways.iter().map(|way| (way, 0));
+        let seen = self.seen.iter().map(|(way, &count)| (way, count));
+        let mut pairs = HashMap::new();
+        for (way, count) in reachable.chain(seen) {
             *pairs.entry((way.from, way.event)).or_default() += count;
         }
-        let mut table = String::new();
+        pairs
+    }
+
+    /// The table, and lines under it for what has no place in it.
+    pub fn table(&self) -> String {
+        let pairs = self.pairs();
+        let cell = |place, event| match pairs.get(&(place, event)) {
+            None => "-".into(),
+            Some(0) => "!".into(),
+            Some(count) => count.to_string(),
+        };
+        let mut table = String::from(LEGEND);
         for side in [Side::Sender, Side::Recorder] {
-            let heads = Event::ALL.map(|event| event.name().to_string());
-            table.push_str(&row(side.name(), &heads));
-            for place in Place::all(side) {
-                let cells = Event::ALL.map(|event| match pairs.get(&(place, event)) {
-                    None => "-".into(),
-                    Some(0) => "!".into(),
-                    Some(count) => count.to_string(),
-                });
-                table.push_str(&row(&place.name(), &cells));
-            }
+            table += &row(side.name(), Event::ALL.map(|event| event.name().into()));
+            table.extend(
+                Place::all(side)
+                    .map(|place| row(&place.name(), Event::ALL.map(|event| cell(place, event)))),
+            );
         }
         table + &self.ways_line() + &self.answers_line() + &self.strays.lines()
     }
@@ -132,7 +136,7 @@ impl Coverage {
     }
 }
 
-fn row(head: &str, cells: &[String]) -> String {
+fn row(head: &str, cells: [String; Event::ALL.len()]) -> String {
     let cells: String = cells.iter().map(|cell| format!(" {cell:>7}")).collect();
     format!("{head:<24}{cells}\n")
 }

@@ -117,6 +117,53 @@ impl<T: Eq + Hash> Numbers<T> {
         let next = self.0.len();
         *self.0.entry(thing).or_insert(next)
     }
+
+    fn in_order(self) -> Vec<T> {
+        let mut numbered: Vec<(T, usize)> = self.0.into_iter().collect();
+        numbered.sort_by_key(|(_, number)| *number);
+        numbered.into_iter().map(|(thing, _)| thing).collect()
+    }
+}
+
+/// A walk that is under way. States are walked from in the order in which they were found.
+struct Walk {
+    known: Numbers<State>,
+    ways: Numbers<Way>,
+    open: VecDeque<Player>,
+}
+
+impl Walk {
+    /// Asks for a record in a state, and keeps the state that it leads to if that is new.
+    fn ask(&mut self, player: &Player, at: usize, record: &Record) -> (Vec<usize>, usize) {
+        let mut next = player.clone();
+        let answer = next.answer(record);
+        let ways = Way::of(record, answer, player.bench(), next.bench())
+            .map(|way| self.ways.of(way))
+            .collect();
+        // Most records are refused, and a state is dear to look up.
+        if next.bench() == player.bench() && next.region() == player.region() {
+            return (ways, at);
+        }
+        let found = self.known.0.len();
+        let to = self.known.of(state(&next));
+        if to == found {
+            self.open.push_back(next);
+        }
+        (ways, to)
+    }
+
+    fn edges(&mut self, player: &Player, at: usize, records: &[Record]) -> Vec<Edge> {
+        let mut edges = Vec::new();
+        for (index, record) in records.iter().enumerate() {
+            let (ways, to) = self.ask(player, at, record);
+            edges.extend(ways.into_iter().map(|way| Edge {
+                record: index,
+                way,
+                to,
+            }));
+        }
+        edges
+    }
 }
 
 pub fn reach() -> Reach {
@@ -125,39 +172,19 @@ pub fn reach() -> Reach {
         .flat_map(|side| Event::ALL.map(|event| event.examples(side)))
         .flatten()
         .collect();
-    let (mut known, mut ways) = (Numbers(HashMap::new()), Numbers(HashMap::new()));
-    let mut open = VecDeque::from([Player::new()]);
-    known.of(state(&open[0]));
+    let opening = Player::new();
+    let mut walk = Walk {
+        known: Numbers(HashMap::from([(state(&opening), 0)])),
+        ways: Numbers(HashMap::new()),
+        open: VecDeque::from([opening]),
+    };
     let mut states = Vec::new();
-    while let Some(player) = open.pop_front() {
-        let at = states.len();
-        let mut edges = Vec::new();
-        for (index, record) in records.iter().enumerate() {
-            let mut next = player.clone();
-            let answer = next.answer(record);
-            // Most records are refused, and a state is dear to compare.
-            let same = next.bench() == player.bench() && next.region() == player.region();
-            // States are walked from in the order in which they were found and numbered.
-            let found = at + 1 + open.len();
-            let to = if same { at } else { known.of(state(&next)) };
-            edges.extend(
-                Way::of(record, answer, player.bench(), next.bench()).map(|way| Edge {
-                    record: index,
-                    way: ways.of(way),
-                    to,
-                }),
-            );
-            if to == found {
-                open.push_back(next);
-            }
-        }
-        states.push(edges);
+    while let Some(player) = walk.open.pop_front() {
+        states.push(walk.edges(&player, states.len(), &records));
     }
-    let mut numbered: Vec<(Way, usize)> = ways.0.into_iter().collect();
-    numbered.sort_by_key(|(_, number)| *number);
     Reach {
         records,
-        ways: numbered.into_iter().map(|(way, _)| way).collect(),
+        ways: walk.ways.in_order(),
         states,
     }
 }
