@@ -24,11 +24,9 @@ fn state(player: &Player) -> State {
     let word = |at: usize| u32::from_le_bytes([0, 1, 2, 3].map(|byte| region[at + byte]));
     let long = |at: usize| u64::from(word(at)) | u64::from(word(at + 4)) << 32;
     let (head, tail) = (long(Header::AT_HEAD), long(Header::AT_TAIL));
-    let Bench { sender, recorder } = *player.bench();
-    let bench = Bench {
-        sender: settled(sender, head, word(Header::AT_NF)),
-        recorder: settled(recorder, tail, word(Header::AT_NE)),
-    };
+    let mut bench = *player.bench();
+    bench.sender = settled(bench.sender, head, word(Header::AT_NF));
+    bench.recorder = settled(bench.recorder, tail, word(Header::AT_NE));
     (bench, head.wrapping_sub(tail), word(Header::AT_FLAGS))
 }
 
