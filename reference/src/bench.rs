@@ -3,6 +3,7 @@
 use crate::answer::{Answer, Bell};
 use crate::party::{Party, Side, Step};
 use crate::region;
+use crate::rules::{Mended, Rules};
 use crate::turn::Wake;
 
 /// Two parties that work on one lent region, turn by turn. A party asleep lies in its side's
@@ -46,9 +47,7 @@ impl Bench {
         payload: &[u8],
         failure: Option<u16>,
     ) -> Answer {
-        let taken = self.sender.sender_turn(region, payload, failure);
-        self.carry_out(taken.wake);
-        taken.answer
+        self.sender_turn_by::<Mended>(region, payload, failure)
     }
 
     #[inline]
@@ -58,7 +57,31 @@ impl Bench {
         buffer: &mut [u8],
         failure: Option<u16>,
     ) -> Answer {
-        let taken = self.recorder.recorder_turn(region, buffer, failure);
+        self.recorder_turn_by::<Mended>(region, buffer, failure)
+    }
+
+    /// A turn of the sender by other rules.
+    #[inline]
+    pub fn sender_turn_by<R: Rules>(
+        &mut self,
+        region: &mut [u8],
+        payload: &[u8],
+        failure: Option<u16>,
+    ) -> Answer {
+        let taken = self.sender.sender_turn_by::<R>(region, payload, failure);
+        self.carry_out(taken.wake);
+        taken.answer
+    }
+
+    /// A turn of the recorder by other rules.
+    #[inline]
+    pub fn recorder_turn_by<R: Rules>(
+        &mut self,
+        region: &mut [u8],
+        buffer: &mut [u8],
+        failure: Option<u16>,
+    ) -> Answer {
+        let taken = self.recorder.recorder_turn_by::<R>(region, buffer, failure);
         self.carry_out(taken.wake);
         taken.answer
     }

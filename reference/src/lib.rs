@@ -4,6 +4,8 @@
 //! The rules stand in `header`, `region`, `party`, `turn` and `bench`; the script program and
 //! its tools in `script`, `stream`, `random`, `text`, `words`, `compare` and `readout`. `rounds`
 //! holds another script program to this one, and `coverage` says what was played with it.
+//! The steps that document 01 mends are a switch: `rules` has them mended, `published` as
+//! document 000 has them.
 //!
 //! Where document 01 is silent, this package decides as follows.
 //!
@@ -31,12 +33,15 @@ pub mod bench;
 pub mod compare;
 pub mod coverage;
 pub mod dice;
+mod endings;
 pub mod header;
 pub mod party;
+pub mod published;
 pub mod random;
 pub mod readout;
 pub mod region;
 pub mod rounds;
+pub mod rules;
 pub mod script;
 pub mod stream;
 pub mod text;

@@ -140,6 +140,8 @@ pub struct Party {
     pub tag: u16,
     /// The length a push named, or the length of a pop's buffer.
     pub length: usize,
+    /// A wake that a published rule decided on before its store; the mended rules set none.
+    pub rings: bool,
     pub step: Step,
 }
 
@@ -156,6 +158,7 @@ impl Party {
             blocking: false,
             tag: 0,
             length: 0,
+            rings: false,
             step: Step::Rest,
         }
     }

@@ -138,6 +138,7 @@ fn enter(region: &mut [u8], side: Side) -> Result<Party, Answer> {
         blocking: false,
         tag: 0,
         length: 0,
+        rings: false,
         step: Step::Rest,
     })
 }

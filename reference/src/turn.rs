@@ -2,8 +2,9 @@
 
 use crate::answer::{Answer, Bell, Operation};
 use crate::header::Header;
-use crate::party::{Cause, CloseTurn, Failure, Party, ShutTurn, Side, Step};
+use crate::party::{Cause, Party, ShutTurn, Side, Step};
 use crate::region::{self, Fill};
+use crate::rules::{Mended, Rules};
 
 const EINTR: u16 = 4;
 const EAGAIN: u16 = 11;
@@ -36,35 +37,31 @@ impl Taken {
     }
 }
 
-impl Cause {
-    /// The first failed wake is the one a shutdown answers with, so a later one is dropped.
-    fn after(self, bell: Bell, failure: Option<u16>) -> Self {
-        match (self, failure) {
-            (Cause::Asked { first: None }, Some(error)) => Cause::Asked {
-                first: Some(Failure {
-                    operation: Operation::wake(bell),
-                    error,
-                }),
-            },
-            _ => self,
-        }
-    }
-
-    fn answer(self) -> Answer {
-        match self {
-            Cause::Asked { first: None } => Answer::Done,
-            Cause::Asked {
-                first: Some(Failure { operation, error }),
-            } => Answer::Syscall { operation, error },
-            Cause::Corruption => Answer::CorruptIndices,
-        }
-    }
-}
-
 impl Party {
     /// A turn of the sender. `payload` is read at P2 only; `failure` is the error that the
     /// turn's futex call fails with, if it makes one.
     pub fn sender_turn(
+        &mut self,
+        region: &mut [u8],
+        payload: &[u8],
+        failure: Option<u16>,
+    ) -> Taken {
+        self.sender_turn_by::<Mended>(region, payload, failure)
+    }
+
+    /// A turn of the recorder. `buffer` is written at C2 only; `failure` is the error that
+    /// the turn's futex call fails with, if it makes one.
+    pub fn recorder_turn(
+        &mut self,
+        region: &mut [u8],
+        buffer: &mut [u8],
+        failure: Option<u16>,
+    ) -> Taken {
+        self.recorder_turn_by::<Mended>(region, buffer, failure)
+    }
+
+    /// A turn of the sender by other rules.
+    pub fn sender_turn_by<R: Rules>(
         &mut self,
         region: &mut [u8],
         payload: &[u8],
@@ -93,29 +90,15 @@ impl Party {
                 slot[2..4].copy_from_slice(&self.tag.to_le_bytes());
                 slot[4..8].fill(0);
                 slot[8..8 + payload.len()].copy_from_slice(payload);
-                self.goes_on(Step::P3)
+                self.goes_on(R::after_p2())
             }
-            Step::P3 => {
-                // The own counter moves with the store: if it waited for the wake, a failed
-                // wake would let the next push overwrite this note.
-                self.count = self.count.wrapping_add(1);
-                header.store_head(self.count);
-                self.goes_on(Step::P4)
-            }
-            Step::P4 => {
-                // Looked at after the store, so that a recorder that found the ring empty
-                // is not missed.
-                if header.tail() == self.count.wrapping_sub(1) {
-                    self.goes_on(Step::P5)
-                } else {
-                    self.ends(Answer::Done)
-                }
-            }
+            Step::P3 => R::p3(self, &mut header),
+            Step::P4 => R::p4(self, &header),
             Step::P5 => {
                 header.raise(Bell::Ne);
                 self.goes_on(Step::P6)
             }
-            Step::P6 => self.last_wake(Bell::Ne, Wake::ONE, failure, Answer::Done),
+            Step::P6 => R::p6(self, failure),
             Step::B1 => self.look(&header, Step::B2),
             Step::B2 => {
                 let epoch = header.bell(Bell::Nf);
@@ -123,20 +106,19 @@ impl Party {
             }
             Step::B3 { epoch } => match region::fill(self.count, header.tail(), self.power) {
                 Fill::Corrupt => self.corruption(),
-                Fill::Full => self.goes_on(Step::B4 { epoch }),
+                Fill::Full => self.goes_on(R::after_b3(epoch)),
                 Fill::Empty | Fill::Between => self.goes_on(Step::P2),
             },
             Step::B4 { epoch } => self.look(&header, Step::B5 { epoch }),
-            Step::B5 { epoch } => self.wait(&header, epoch, failure),
-            Step::Close(turn) => self.close_turn(&mut header, turn, failure),
+            Step::B5 { epoch } => self.wait::<R>(&header, epoch, failure),
+            Step::Close(turn) => self.close_turn::<R>(&mut header, turn, failure),
             Step::Shut { turn, cause } => self.shut_turn(&mut header, turn, cause, failure),
             _ => Taken::answer(Answer::BadCall),
         }
     }
 
-    /// A turn of the recorder. `buffer` is written at C2 only; `failure` is the error that
-    /// the turn's futex call fails with, if it makes one.
-    pub fn recorder_turn(
+    /// A turn of the recorder by other rules.
+    pub fn recorder_turn_by<R: Rules>(
         &mut self,
         region: &mut [u8],
         buffer: &mut [u8],
@@ -170,32 +152,15 @@ impl Party {
                 }
                 self.tag = u16::from_le_bytes([slot[2], slot[3]]);
                 buffer[..needed].copy_from_slice(&slot[8..8 + needed]);
-                self.goes_on(Step::C3 { length })
+                self.goes_on(R::after_c2(self, length))
             }
-            Step::C3 { length } => {
-                self.count = self.count.wrapping_add(1);
-                header.store_tail(self.count);
-                if self.not_full {
-                    self.goes_on(Step::C4 { length })
-                } else {
-                    self.ends(self.delivered(length))
-                }
-            }
-            Step::C4 { length } => {
-                let old = self.count.wrapping_sub(1);
-                if header.head().wrapping_sub(old) == self.capacity() {
-                    self.goes_on(Step::C5 { length })
-                } else {
-                    self.ends(self.delivered(length))
-                }
-            }
+            Step::C3 { length } => R::c3(self, &mut header, length),
+            Step::C4 { length } => R::c4(self, &header, length),
             Step::C5 { length } => {
                 header.raise(Bell::Nf);
                 self.goes_on(Step::C6 { length })
             }
-            Step::C6 { length } => {
-                self.last_wake(Bell::Nf, Wake::ONE, failure, self.delivered(length))
-            }
+            Step::C6 { length } => R::c6(self, failure, length),
             Step::W1 => self.look(&header, Step::W2),
             Step::W2 => {
                 let epoch = header.bell(Bell::Ne);
@@ -203,12 +168,12 @@ impl Party {
             }
             Step::W3 { epoch } => match region::fill(header.head(), self.count, self.power) {
                 Fill::Corrupt => self.corruption(),
-                Fill::Empty => self.goes_on(Step::W4 { epoch }),
+                Fill::Empty => self.goes_on(R::after_w3(epoch)),
                 Fill::Between | Fill::Full => self.goes_on(Step::C2),
             },
             Step::W4 { epoch } => self.look(&header, Step::W5 { epoch }),
-            Step::W5 { epoch } => self.wait(&header, epoch, failure),
-            Step::Close(turn) => self.close_turn(&mut header, turn, failure),
+            Step::W5 { epoch } => self.wait::<R>(&header, epoch, failure),
+            Step::Close(turn) => self.close_turn::<R>(&mut header, turn, failure),
             Step::Shut { turn, cause } => self.shut_turn(&mut header, turn, cause, failure),
             _ => Taken::answer(Answer::BadCall),
         }
@@ -224,19 +189,19 @@ impl Party {
     }
 
     #[inline]
-    fn goes_on(&mut self, step: Step) -> Taken {
+    pub(crate) fn goes_on(&mut self, step: Step) -> Taken {
         self.step = step;
         Taken::answer(Answer::GoesOn)
     }
 
     #[inline]
-    fn ends(&mut self, answer: Answer) -> Taken {
+    pub(crate) fn ends(&mut self, answer: Answer) -> Taken {
         self.step = Step::Rest;
         Taken::answer(answer)
     }
 
     #[inline]
-    fn delivered(&self, length: u16) -> Answer {
+    pub(crate) fn delivered(&self, length: u16) -> Answer {
         Answer::Delivered {
             tag: self.tag,
             length,
@@ -251,7 +216,13 @@ impl Party {
     }
 
     /// The wake that ends a call.
-    fn last_wake(&mut self, bell: Bell, count: u32, failure: Option<u16>, done: Answer) -> Taken {
+    pub(crate) fn last_wake(
+        &mut self,
+        bell: Bell,
+        count: u32,
+        failure: Option<u16>,
+        done: Answer,
+    ) -> Taken {
         match failure {
             Some(error) => self.ends(Answer::Syscall {
                 operation: Operation::wake(bell),
@@ -277,11 +248,11 @@ impl Party {
     }
 
     /// The wait on the own side's bell. A failed wait does not sleep, whatever the word holds.
-    fn wait(&mut self, header: &Header, epoch: u32, failure: Option<u16>) -> Taken {
+    fn wait<R: Rules>(&mut self, header: &Header, epoch: u32, failure: Option<u16>) -> Taken {
         let bell = self.side.sleeps_on();
         let again = self.side.first_step();
         match failure {
-            None if header.bell(bell) == epoch => self.goes_on(Step::Asleep),
+            None if (header.bell(bell) ^ epoch) & R::BELL == 0 => self.goes_on(Step::Asleep),
             None | Some(EINTR | EAGAIN) => self.goes_on(again),
             Some(ETIMEDOUT) => self.ends(Answer::Timeout),
             Some(error) => self.ends(Answer::Syscall {
@@ -289,69 +260,5 @@ impl Party {
                 error,
             }),
         }
-    }
-
-    fn close_turn(&mut self, header: &mut Header, turn: CloseTurn, failure: Option<u16>) -> Taken {
-        // The other side's bell: the one the party that must hear of the close sleeps on.
-        let bell = self.side.other().sleeps_on();
-        match turn {
-            CloseTurn::SetBit => {
-                header.set_flag(self.side.closed_flag());
-                self.closed = true;
-                if self.side == Side::Recorder && !self.not_full {
-                    self.ends(Answer::Done)
-                } else {
-                    self.goes_on(Step::Close(CloseTurn::Raise))
-                }
-            }
-            CloseTurn::Raise => {
-                header.raise(bell);
-                self.goes_on(Step::Close(CloseTurn::WakeAll))
-            }
-            CloseTurn::WakeAll => self.last_wake(bell, Wake::ALL, failure, Answer::Done),
-        }
-    }
-
-    fn shut_turn(
-        &mut self,
-        header: &mut Header,
-        turn: ShutTurn,
-        cause: Cause,
-        failure: Option<u16>,
-    ) -> Taken {
-        let on = |turn, cause| Step::Shut { turn, cause };
-        match turn {
-            ShutTurn::SetBit => {
-                header.set_flag(Header::SHUTDOWN);
-                self.goes_on(on(ShutTurn::RaiseNe, cause))
-            }
-            ShutTurn::RaiseNe => {
-                header.raise(Bell::Ne);
-                self.goes_on(on(ShutTurn::WakeNe, cause))
-            }
-            ShutTurn::WakeNe => Taken {
-                wake: wake_all(Bell::Ne, failure),
-                ..self.goes_on(on(ShutTurn::RaiseNf, cause.after(Bell::Ne, failure)))
-            },
-            ShutTurn::RaiseNf => {
-                header.raise(Bell::Nf);
-                self.goes_on(on(ShutTurn::WakeNf, cause))
-            }
-            ShutTurn::WakeNf => Taken {
-                wake: wake_all(Bell::Nf, failure),
-                ..self.ends(cause.after(Bell::Nf, failure).answer())
-            },
-        }
-    }
-}
-
-/// A wake of all that sleep on a bell, if it does not fail.
-fn wake_all(bell: Bell, failure: Option<u16>) -> Option<Wake> {
-    match failure {
-        None => Some(Wake {
-            bell,
-            count: Wake::ALL,
-        }),
-        Some(_) => None,
     }
 }
