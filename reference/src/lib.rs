@@ -34,6 +34,7 @@ pub mod compare;
 pub mod coverage;
 pub mod dice;
 mod endings;
+pub mod explore;
 pub mod header;
 pub mod party;
 pub mod published;

@@ -7,6 +7,7 @@ use std::process::ExitCode;
 
 use reference::compare::{compare, Verdict};
 use reference::coverage::Coverage;
+use reference::explore::{lost, needed, Report};
 use reference::random::Generator;
 use reference::rounds::{self, rounds, Played};
 use reference::stream::{play, Trouble};
@@ -44,6 +45,13 @@ usage:
   reference read SCRIPT REPORT
       writes a line for each record: number, what was asked, the answer, the step
       the asked party then stands at; what differs from the reference is marked !
+  reference lost RULE
+      explores every order of turns with one rule as document 000 has it and tells a
+      shortest run that shows the loss; `mended` shows that document 01's rules lose
+      nothing, `list` names the rules; for example: reference lost 12.5.2
+  reference needed PREMISE
+      tells a shortest run that breaks a theorem without one of its premises, or the
+      numbers that show that it stands; `list` names the premises
 
 Status: 0 well, 1 a difference, a bad line, or a failed read or write, 2 bad arguments.
 ";
@@ -73,9 +81,18 @@ fn main() -> ExitCode {
         },
         ("write", []) => write(),
         ("read", [script, report]) => read_files(script, report),
+        ("lost", [rule]) => match lost::answer(&rule.to_string_lossy()) {
+            Some(report) => tell(&report),
+            None => return usage("RULE is one of those that `reference lost list` names"),
+        },
+        ("needed", [premise]) => match needed::answer(&premise.to_string_lossy()) {
+            Some(report) => tell(&report),
+            None => return usage("PREMISE is one of those that `reference needed list` names"),
+        },
         ("help" | "--help" | "-h", []) => say(USAGE),
         (
             "play" | "random" | "compare" | "rounds" | "tour" | "write" | "read" | "help"
+            "play" | "random" | "compare" | "write" | "read" | "lost" | "needed" | "help"
             | "--help" | "-h",
             _,
         ) => {
@@ -110,6 +127,16 @@ fn give(bytes: &[u8], doing: &'static str) -> Outcome {
         .and_then(|()| out.flush())
         .map_err(|error| Trouble { doing, error }.to_string())?;
     Ok(ExitCode::SUCCESS)
+}
+
+/// An exploration that did not come out as it should ends with status 1.
+fn tell(report: &Report) -> Outcome {
+    let status = say(&report.words)?;
+    Ok(if report.well {
+        status
+    } else {
+        ExitCode::FAILURE
+    })
 }
 
 fn number(argument: &OsStr) -> Option<u64> {

@@ -6,9 +6,9 @@ use crate::party::{Cause, Party, ShutTurn, Side, Step};
 use crate::region::{self, Fill};
 use crate::rules::{Mended, Rules};
 
-const EINTR: u16 = 4;
+pub(crate) const EINTR: u16 = 4;
 const EAGAIN: u16 = 11;
-const ETIMEDOUT: u16 = 110;
+pub(crate) const ETIMEDOUT: u16 = 110;
 
 /// A wake that did not fail; whoever keeps the sleeping places carries it out.
 #[derive(Clone, Copy, Debug, PartialEq, Eq)]

@@ -1,0 +1,26 @@
+//! Every order of turns of a small ring, walked through to the end.
+//!
+//! `machine` plays one event on a state; `normal` makes states that differ by nothing but their
+//! counting equal, so that there are finitely many; `menu` says what may happen; `search` walks
+//! breadth first and finds a shortest run that breaks a claim; `bounds` counts a party's own
+//! turns. `story` tells a run turn by turn, `tables` the numbers. `lost` and `needed` are the
+//! two questions that are asked of all this: what a published rule loses, and what a premise
+//! is needed for.
+
+pub mod bounds;
+pub mod claims;
+pub mod lost;
+pub mod machine;
+pub mod menu;
+pub mod needed;
+pub mod normal;
+pub mod report;
+pub mod search;
+mod story;
+mod tables;
+
+pub use claims::Claim;
+pub use machine::{Event, Machine, Meddling, State, Turns};
+pub use menu::Menu;
+pub use report::Report;
+pub use search::Walk;

@@ -1,0 +1,108 @@
+//! The numbers of T2 and T4, and how often a bell is raised between a look and a wait.
+
+use super::bounds::{states, to_no_room, to_rest, Largest};
+use super::machine::{Machine, State, Turns};
+use super::menu::Menu;
+use super::report::Report;
+use super::search::Walk;
+use crate::party::{Party, Side, Step};
+use crate::rules::Mended;
+use crate::words;
+
+/// T4's number.
+const SEVEN: u32 = 7;
+
+fn turns_words(largest: &Largest) -> String {
+    match largest.turns {
+        None => "no bound".into(),
+        Some(turns) => turns.to_string(),
+    }
+}
+
+/// The steps of a stretch, by their names.
+fn steps_words(side: Side, steps: &[Step]) -> String {
+    let name = |&step: &Step| {
+        words::step(&Party {
+            step,
+            ..Party::unattached(side)
+        })
+    };
+    let names: Vec<String> = steps.iter().map(name).collect();
+    names.join(" ")
+}
+
+fn row(report: &mut Report, name: String, side: Side, largest: &Largest, bound: u32) {
+    report.well &= largest.turns.is_some_and(|turns| turns <= bound);
+    report.line(&format!(
+        "  {:<8}  {name:<10}  {bound:>5}  {:>7}  {}",
+        side.name(),
+        turns_words(largest),
+        steps_words(side, &largest.steps)
+    ));
+}
+
+/// T2 for each room and T4, of a side in the states given: the bound, and the most found.
+fn side_rows(report: &mut Report, machine: &mut Machine, found: &[State], side: Side, menu: Menu) {
+    for room in 1..=machine.capacity() {
+        let largest = to_no_room(machine, found, side, menu, room);
+        let bound = 4 * room as u32 + 3;
+        row(report, format!("T2, k = {room}"), side, &largest, bound);
+    }
+    let largest = to_rest(machine, found, side, menu);
+    row(report, "T4".into(), side, &largest, SEVEN);
+}
+
+/// The most own turns in every state that a menu leads to, stretches by the same menu.
+pub fn own_turns(report: &mut Report, turns: Turns, power: u8, menu_of: fn(Side) -> Menu) {
+    let mut machine = Machine::new(turns, power, true);
+    report.line("  party     theorem     bound  reached  by");
+    for side in [Side::Sender, Side::Recorder] {
+        let menu = menu_of(side);
+        let found = states(&mut machine, menu);
+        side_rows(report, &mut machine, &found, side, menu);
+    }
+}
+
+/// More raises than this are told as `at least`.
+const MOST: u32 = 9;
+
+/// The most raises of a side's bell that its wait may find since its epoch.
+fn most_raises(power: u8, menu: Menu, side: Side) -> u32 {
+    let mut machine = Machine::new(Turns::by::<Mended>(), power, true);
+    let walk = Walk {
+        menu,
+        claims: &[],
+        raises: MOST,
+    };
+    let found = walk.from_start(&mut machine).states;
+    let waits = |state: &&State| matches!(state.step(side), Step::B5 { .. } | Step::W5 { .. });
+    let raised = |state: &State| match side {
+        Side::Sender => state.nf,
+        Side::Recorder => state.ne,
+    };
+    found.iter().filter(waits).map(raised).max().unwrap_or(0)
+}
+
+/// A row for each sort of call that the other may make meanwhile.
+pub fn raises(report: &mut Report) {
+    let closes = Menu {
+        closes: true,
+        ..Menu::NOTES
+    };
+    let rows = [
+        ("pushes and pops", Menu::NOTES),
+        ("the same and closes", closes),
+        ("the same and shutdowns", Menu::CALLS),
+    ];
+    report.line("  calls                   NE, W2 to W5  NF, B2 to B5");
+    for (name, menu) in rows {
+        let [ne, nf] = [Side::Recorder, Side::Sender].map(|side| {
+            let most = most_raises(1, menu, side).max(most_raises(2, menu, side));
+            match most {
+                MOST => "no limit".into(),
+                _ => most.to_string(),
+            }
+        });
+        report.line(&format!("  {name:<22}  {ne:>12}  {nf:>12}"));
+    }
+}
