@@ -6,6 +6,7 @@ use super::machine::{Machine, State, Turns};
 use super::menu::Menu;
 use super::report::Report;
 use super::search::{Explored, Walk};
+use super::tables;
 use crate::party::{Side, Step};
 use crate::published::{
     EarlyPop, EarlyPush, LateHead, LateTail, OneLookPop, OneLookPush, SilentClose,
@@ -169,6 +170,13 @@ fn later_words(machine: &mut Machine, state: &State, sleeper: Side) -> (String, 
     (words, after.for_good)
 }
 
+fn at_four(report: &mut Report, rule: &Rule) {
+    if let Some(run) = rule.explore(&mut rule.machine(2)).broken {
+        let length = run.events.len();
+        report.line(&format!("At capacity 4 a shortest has {length} lines."));
+    }
+}
+
 /// The whole answer for one rule: its shortest loss at capacity 2, and how long at 4.
 pub fn told(rule: &Rule) -> Report {
     let mut machine = rule.machine(1);
@@ -184,14 +192,16 @@ pub fn told(rule: &Rule) -> Report {
         report.line(&words);
         report.well &= for_good;
     }
-    let larger = rule.explore(&mut rule.machine(2));
-    if let Some(run) = larger.broken {
-        let length = run.events.len();
-        report.line(&format!("At capacity 4 a shortest has {length} lines."));
+    at_four(&mut report, rule);
+    if let Claim::Cause(_) = end.claim {
+        report.line(
+            "\nT2 and T4 count turns that are taken, and a sleeper's answer 253: the sleep itself is\n\
+             for T3 alone. The most own turns by this rule, ! where they pass the bound:\n",
+        );
+        tables::own_turns(&mut report, rule.turns, 1, Menu::fair);
     }
     report
 }
-
 fn kept(report: &mut Report, name: &str, explored: &Explored) {
     let verdict = match &explored.broken {
         None => format!("kept in all {} states", explored.states.len()),

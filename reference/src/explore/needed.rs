@@ -55,7 +55,7 @@ fn wake() -> Report {
         "\nT2 and T4 as stated do not need it: they count turns that are taken, and a sleeper's\n\
          answer 253. With every wake failing at will, the most own turns at capacity 2:\n",
     );
-    tables::own_turns(&mut report, Turns::by::<Mended>(), 1, |_| Menu::ALL);
+    report.well &= tables::own_turns(&mut report, Turns::by::<Mended>(), 1, |_| Menu::ALL);
     report
 }
 
@@ -72,9 +72,9 @@ fn time_out() -> Report {
             "\nCapacity {}, time-outs everywhere:\n",
             1 << power
         ));
-        tables::own_turns(&mut report, mended, power, Menu::fair);
+        report.well &= tables::own_turns(&mut report, mended, power, Menu::fair);
         report.line(&format!("\nCapacity {}, no time-outs:\n", 1 << power));
-        tables::own_turns(&mut report, mended, power, |side| Menu {
+        report.well &= tables::own_turns(&mut report, mended, power, |side| Menu {
             time_outs: false,
             ..Menu::fair(side)
         });
@@ -108,7 +108,8 @@ fn bell() -> Report {
     report.line(
         "\nAs with wakes that fail, the numbers of T2 and T4 stay. With a bell of one bit:\n",
     );
-    tables::own_turns(&mut report, Turns::by::<NarrowBell<1>>(), 1, Menu::fair);
+    let narrow = Turns::by::<NarrowBell<1>>();
+    report.well &= tables::own_turns(&mut report, narrow, 1, Menu::fair);
     report.line(
         "\nA shutdown may be begun again and again, and each raises both bells once: only\n\
          2^32 shutdowns, or nearly as many, bring a bell of 32 bits round.",

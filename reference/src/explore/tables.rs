@@ -31,36 +31,40 @@ fn steps_words(side: Side, steps: &[Step]) -> String {
     names.join(" ")
 }
 
-fn row(report: &mut Report, name: String, side: Side, largest: &Largest, bound: u32) {
-    report.well &= largest.turns.is_some_and(|turns| turns <= bound);
+/// One line: the bound and the most found, marked where it is more. Gives whether it is kept.
+fn row(report: &mut Report, name: &str, side: Side, largest: &Largest, bound: u32) -> bool {
+    let kept = largest.turns.is_some_and(|turns| turns <= bound);
+    let mark = if kept { ' ' } else { '!' };
     report.line(&format!(
-        "  {:<8}  {name:<10}  {bound:>5}  {:>7}  {}",
+        "{mark} {:<8}  {name:<9}  {bound:>5}  {:>7}  {}",
         side.name(),
         turns_words(largest),
         steps_words(side, &largest.steps)
     ));
+    kept
 }
 
-/// T2 for each room and T4, of a side in the states given: the bound, and the most found.
-fn side_rows(report: &mut Report, machine: &mut Machine, found: &[State], side: Side, menu: Menu) {
+/// T2 for each room and T4 of one side.
+fn rows(report: &mut Report, machine: &mut Machine, side: Side, menu: Menu) -> bool {
+    let found = states(machine, menu);
+    let mut kept = true;
     for room in 1..=machine.capacity() {
-        let largest = to_no_room(machine, found, side, menu, room);
+        let largest = to_no_room(machine, &found, side, menu, room);
         let bound = 4 * room as u32 + 3;
-        row(report, format!("T2, k = {room}"), side, &largest, bound);
+        kept &= row(report, &format!("T2, k = {room}"), side, &largest, bound);
     }
-    let largest = to_rest(machine, found, side, menu);
-    row(report, "T4".into(), side, &largest, SEVEN);
+    let largest = to_rest(machine, &found, side, menu);
+    kept & row(report, "T4", side, &largest, SEVEN)
 }
 
-/// The most own turns in every state that a menu leads to, stretches by the same menu.
-pub fn own_turns(report: &mut Report, turns: Turns, power: u8, menu_of: fn(Side) -> Menu) {
+/// The most own turns in every state that a menu leads to, in stretches by the same menu.
+/// Gives whether the bounds are kept.
+pub fn own_turns(report: &mut Report, turns: Turns, power: u8, menu_of: fn(Side) -> Menu) -> bool {
     let mut machine = Machine::new(turns, power, true);
-    report.line("  party     theorem     bound  reached  by");
-    for side in [Side::Sender, Side::Recorder] {
-        let menu = menu_of(side);
-        let found = states(&mut machine, menu);
-        side_rows(report, &mut machine, &found, side, menu);
-    }
+    report.line("  party     theorem    bound  reached  by");
+    let [sender, recorder] =
+        [Side::Sender, Side::Recorder].map(|side| rows(report, &mut machine, side, menu_of(side)));
+    sender && recorder
 }
 
 /// More raises than this are told as `at least`.
