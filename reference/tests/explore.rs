@@ -2,8 +2,9 @@
 
 use std::collections::HashSet;
 
+use reference::explore::afterwards::afterwards;
 use reference::explore::bounds::{states, to_no_room, to_rest, Counter, Stretch};
-use reference::explore::lost::{self, afterwards};
+use reference::explore::lost;
 use reference::explore::normal::normal;
 use reference::explore::{needed, Claim, Event, Machine, Meddling, Menu, State, Turns, Walk};
 use reference::published::NarrowBell;
@@ -131,19 +132,29 @@ fn a_state_and_its_normal_form_go_on_alike() {
 
 /// Both bounds are kept. T2's is reached where all slots are room and the party rings; T4's
 /// where both sides ring.
-fn bounds(power: u8, not_full: bool, side: Side, menu: Menu) {
-    let mut machine = mended(power, not_full);
+fn bounds(mut machine: Machine, side: Side, menu: Menu) {
+    let not_full = machine.start().bench.sender.not_full;
     let found = states(&mut machine, menu);
     let capacity = machine.capacity() as u32;
     for k in 1..=capacity {
         let most = to_no_room(&mut machine, &found, side, menu, k.into()).turns;
         let bound = 4 * k + 3;
-        assert!(most.unwrap() <= bound, "{power} {side:?} {k}");
+        assert!(
+            most.unwrap() <= bound,
+            "capacity {capacity}, {side:?}, k = {k}"
+        );
         let reached = k == capacity && (not_full || side == Side::Sender);
-        assert_eq!(most == Some(bound), reached, "{power} {side:?} {k}");
+        assert_eq!(
+            most == Some(bound),
+            reached,
+            "capacity {capacity}, {side:?}, k = {k}"
+        );
     }
     let most = to_rest(&mut machine, &found, side, menu).turns.unwrap();
-    assert!(most <= 7 && (most == 7) == not_full, "{power} {side:?}");
+    assert!(
+        most <= 7 && (most == 7) == not_full,
+        "capacity {capacity}, {side:?}"
+    );
 }
 
 #[test]
@@ -151,19 +162,23 @@ fn the_bounds_are_kept_with_time_outs_and_without() {
     for (power, not_full) in RINGS {
         for side in SIDES {
             let menu = Menu::fair(side);
-            bounds(power, not_full, side, menu);
+            bounds(mended(power, not_full), side, menu);
             let time_outs = false;
-            bounds(power, not_full, side, Menu { time_outs, ..menu });
+            let menu = Menu { time_outs, ..menu };
+            bounds(mended(power, not_full), side, menu);
         }
     }
 }
 
-/// T2 and T4 count turns that are taken, so a wake that fails moves no count.
+/// T2 and T4 count turns that are taken, so a wake that fails and a bell that comes round move
+/// no count.
 #[test]
-fn the_bounds_are_kept_whatever_wakes_fail() {
-    for (power, not_full) in RINGS {
+fn the_bounds_are_kept_without_premises() {
+    for power in [1, 2] {
         for side in SIDES {
-            bounds(power, not_full, side, Menu::ALL);
+            let narrow = Machine::new(Turns::by::<NarrowBell<1>>(), power, true);
+            bounds(narrow, side, Menu::ALL);
+            bounds(mended(power, true), side, Menu::ALL);
         }
     }
 }

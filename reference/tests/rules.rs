@@ -119,7 +119,7 @@ fn the_mended_rules_are_the_same() {
 fn every_published_rule_is_found_at_its_first_differing_record() {
     for rule in rules() {
         let mut found = 0;
-        for seed in 0..40 {
+        for seed in 0..24 {
             let script = script(seed);
             let report = played(&script, rule.turns);
             let mut mended = Vec::new();
@@ -141,7 +141,7 @@ fn every_published_rule_is_found_at_its_first_differing_record() {
                 }
             }
         }
-        println!("{}: found by {found} of 40 scripts", rule.name);
-        assert!(found >= 5, "{}: found by {found} scripts", rule.name);
+        println!("{}: found by {found} of 24 scripts", rule.name);
+        assert!(found >= 3, "{}: found by {found} scripts", rule.name);
     }
 }

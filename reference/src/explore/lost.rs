@@ -2,12 +2,12 @@
 //! document 000 has it, and all else mended.
 
 use super::claims::Claim;
-use super::machine::{Machine, State, Turns};
+use super::machine::{Machine, Turns};
 use super::menu::Menu;
 use super::report::Report;
 use super::search::{Explored, Walk};
 use super::tables;
-use crate::party::{Side, Step};
+use crate::party::Side;
 use crate::published::{
     EarlyPop, EarlyPush, LateHead, LateTail, OneLookPop, OneLookPush, SilentClose,
 };
@@ -104,72 +104,6 @@ impl Rule {
     }
 }
 
-/// What may still come of a sleeper that no turn has woken.
-pub struct Afterwards {
-    pub states: usize,
-    /// Whether no push or pop of the other's wakes it.
-    pub for_good: bool,
-    pub both_asleep: bool,
-}
-
-/// Follows a sleeper through all pushes and pops of the other's. A shutdown would wake it, but
-/// nobody should have to shut down to get a note through.
-pub fn afterwards(machine: &mut Machine, state: &State, sleeper: Side) -> Afterwards {
-    let walk = Walk {
-        menu: Menu::NOTES,
-        claims: &[],
-        raises: 1,
-    };
-    let states = walk.explore(machine, state).states;
-    let asleep = |side: Side| move |state: &&State| state.step(side) == Step::Asleep;
-    let sleeping = states.iter().filter(asleep(sleeper)).count();
-    Afterwards {
-        for_good: sleeping == states.len(),
-        both_asleep: states
-            .iter()
-            .filter(asleep(sleeper))
-            .any(|state| asleep(sleeper.other())(&state)),
-        states: states.len(),
-    }
-}
-
-fn calls_of(side: Side) -> &'static str {
-    match side {
-        Side::Sender => "pushes",
-        Side::Recorder => "pops",
-    }
-}
-
-fn later_words(machine: &mut Machine, state: &State, sleeper: Side) -> (String, bool) {
-    let other = sleeper.other();
-    let after = afterwards(machine, state, sleeper);
-    let words = if !after.for_good {
-        format!(
-            "Some of the {}'s {} wake it.",
-            other.name(),
-            calls_of(other)
-        )
-    } else if state.bench.party(other).closed {
-        format!(
-            "For good: the {} has closed, and nothing but a shutdown is left to it.",
-            other.name()
-        )
-    } else {
-        let both = if after.both_asleep {
-            "; in the end both sleep"
-        } else {
-            ""
-        };
-        format!(
-            "For good: however the {} goes on with {}, none wakes it ({} states){both}.",
-            other.name(),
-            calls_of(other),
-            after.states
-        )
-    };
-    (words, after.for_good)
-}
-
 fn at_four(report: &mut Report, rule: &Rule) {
     if let Some(run) = rule.explore(&mut rule.machine(2)).broken {
         let length = run.events.len();
@@ -187,11 +121,7 @@ pub fn told(rule: &Rule) -> Report {
     let Some(end) = report.run(&mut machine, &rule.walk()) else {
         return report;
     };
-    if let Claim::Cause(sleeper) = end.claim {
-        let (words, for_good) = later_words(&mut machine, &end.state, sleeper);
-        report.line(&words);
-        report.well &= for_good;
-    }
+    report.well &= end.for_good;
     at_four(&mut report, rule);
     if let Claim::Cause(_) = end.claim {
         report.line(

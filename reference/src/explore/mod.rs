@@ -2,11 +2,12 @@
 //!
 //! `machine` plays one event on a state; `normal` makes states that differ by nothing but their
 //! counting equal, so that there are finitely many; `menu` says what may happen; `search` walks
-//! breadth first and finds a shortest run that breaks a claim; `bounds` counts a party's own
-//! turns. `story` tells a run turn by turn, `tables` the numbers. `lost` and `needed` are the
+//! breadth first and finds a shortest run that breaks a claim; `afterwards` follows a sleeper
+//! from there; `bounds` counts a party's own turns. `story` tells a run turn by turn, `tables` the numbers. `lost` and `needed` are the
 //! two questions that are asked of all this: what a published rule loses, and what a premise
 //! is needed for.
 
+pub mod afterwards;
 pub mod bounds;
 pub mod claims;
 pub mod lost;

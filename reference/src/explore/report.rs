@@ -1,5 +1,6 @@
 //! What an exploration answers with: lines to read, and whether all came as it should.
 
+use super::afterwards::{afterwards, words};
 use super::claims::Claim;
 use super::machine::{Machine, State};
 use super::search::Walk;
@@ -12,10 +13,10 @@ pub struct Report {
     pub well: bool,
 }
 
-/// Where a run that was told ended, and the claim that it broke.
+/// The claim that a run broke, and whether it stays broken: a sleeper may still be woken.
 pub struct End {
-    pub state: State,
     pub claim: Claim,
+    pub for_good: bool,
 }
 
 impl Report {
@@ -42,7 +43,18 @@ impl Report {
         self.line(&lines);
         self.line(&format!("At the end: {}.", story::stands(&state)));
         self.line(&format!("Broken: {}.", run.claim.name()));
+        let for_good = self.later(machine, &state, run.claim);
         let claim = run.claim;
-        Some(End { state, claim })
+        Some(End { claim, for_good })
+    }
+
+    /// Tells what may still come of a sleeper, if the claim is about one.
+    fn later(&mut self, machine: &mut Machine, state: &State, claim: Claim) -> bool {
+        let Claim::Cause(sleeper) = claim else {
+            return true;
+        };
+        let after = afterwards(machine, state, sleeper);
+        self.line(&words(&after, state, sleeper));
+        after.for_good
     }
 }
