@@ -40,24 +40,18 @@ impl Bench {
         }
     }
 
+    /// Moves whoever sleeps on the bell to the first step. Each bell has one sleeping place,
+    /// so one and all are the same here; the waker itself is awake and is never moved.
     #[inline]
-    pub fn sender_turn(
-        &mut self,
-        region: &mut [u8],
-        payload: &[u8],
-        failure: Option<u16>,
-    ) -> Answer {
-        self.sender_turn_by::<Mended>(region, payload, failure)
-    }
-
-    #[inline]
-    pub fn recorder_turn(
-        &mut self,
-        region: &mut [u8],
-        buffer: &mut [u8],
-        failure: Option<u16>,
-    ) -> Answer {
-        self.recorder_turn_by::<Mended>(region, buffer, failure)
+    fn carry_out(&mut self, wake: Option<Wake>) {
+        let sleeper = match wake {
+            None => return,
+            Some(Wake { bell: Bell::Ne, .. }) => &mut self.recorder,
+            Some(Wake { bell: Bell::Nf, .. }) => &mut self.sender,
+        };
+        if sleeper.step == Step::Asleep {
+            sleeper.step = sleeper.side.first_step();
+        }
     }
 
     /// A turn of the sender by other rules.
@@ -86,17 +80,23 @@ impl Bench {
         taken.answer
     }
 
-    /// Moves whoever sleeps on the bell to the first step. Each bell has one sleeping place,
-    /// so one and all are the same here; the waker itself is awake and is never moved.
     #[inline]
-    fn carry_out(&mut self, wake: Option<Wake>) {
-        let sleeper = match wake {
-            None => return,
-            Some(Wake { bell: Bell::Ne, .. }) => &mut self.recorder,
-            Some(Wake { bell: Bell::Nf, .. }) => &mut self.sender,
-        };
-        if sleeper.step == Step::Asleep {
-            sleeper.step = sleeper.side.first_step();
-        }
+    pub fn sender_turn(
+        &mut self,
+        region: &mut [u8],
+        payload: &[u8],
+        failure: Option<u16>,
+    ) -> Answer {
+        self.sender_turn_by::<Mended>(region, payload, failure)
+    }
+
+    #[inline]
+    pub fn recorder_turn(
+        &mut self,
+        region: &mut [u8],
+        buffer: &mut [u8],
+        failure: Option<u16>,
+    ) -> Answer {
+        self.recorder_turn_by::<Mended>(region, buffer, failure)
     }
 }

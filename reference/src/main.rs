@@ -52,6 +52,7 @@ usage:
   reference needed PREMISE
       tells a shortest run that breaks a theorem without one of its premises, or the
       numbers that show that it stands; `list` names the premises
+      (both end with status 1 if it does not come out as docs/NEEDED.md says)
 
 Status: 0 well, 1 a difference, a bad line, or a failed read or write, 2 bad arguments.
 ";

@@ -38,28 +38,6 @@ impl Taken {
 }
 
 impl Party {
-    /// A turn of the sender. `payload` is read at P2 only; `failure` is the error that the
-    /// turn's futex call fails with, if it makes one.
-    pub fn sender_turn(
-        &mut self,
-        region: &mut [u8],
-        payload: &[u8],
-        failure: Option<u16>,
-    ) -> Taken {
-        self.sender_turn_by::<Mended>(region, payload, failure)
-    }
-
-    /// A turn of the recorder. `buffer` is written at C2 only; `failure` is the error that
-    /// the turn's futex call fails with, if it makes one.
-    pub fn recorder_turn(
-        &mut self,
-        region: &mut [u8],
-        buffer: &mut [u8],
-        failure: Option<u16>,
-    ) -> Taken {
-        self.recorder_turn_by::<Mended>(region, buffer, failure)
-    }
-
     /// A turn of the sender by other rules.
     pub fn sender_turn_by<R: Rules>(
         &mut self,
@@ -177,6 +155,28 @@ impl Party {
             Step::Shut { turn, cause } => self.shut_turn(&mut header, turn, cause, failure),
             _ => Taken::answer(Answer::BadCall),
         }
+    }
+
+    /// A turn of the sender. `payload` is read at P2 only; `failure` is the error that the
+    /// turn's futex call fails with, if it makes one.
+    pub fn sender_turn(
+        &mut self,
+        region: &mut [u8],
+        payload: &[u8],
+        failure: Option<u16>,
+    ) -> Taken {
+        self.sender_turn_by::<Mended>(region, payload, failure)
+    }
+
+    /// A turn of the recorder. `buffer` is written at C2 only; `failure` is the error that
+    /// the turn's futex call fails with, if it makes one.
+    pub fn recorder_turn(
+        &mut self,
+        region: &mut [u8],
+        buffer: &mut [u8],
+        failure: Option<u16>,
+    ) -> Taken {
+        self.recorder_turn_by::<Mended>(region, buffer, failure)
     }
 
     /// The grounds of 20 that both sides share. They come before 253, so a party at rest is

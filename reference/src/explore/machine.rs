@@ -3,7 +3,8 @@
 //! The state holds the words of the region that can change. To play an event they are laid
 //! into a region of bytes, the party takes its turn there, and they are read back.
 
-use crate::answer::Answer;
+use super::meddling::{meddle, Meddling};
+use crate::answer::{Answer, Bell};
 use crate::bench::Bench;
 use crate::header::Header;
 use crate::party::{Side, Step};
@@ -36,23 +37,6 @@ impl Turns {
             bell: R::BELL,
         }
     }
-}
-
-/// What somebody who is neither party may do, where nobody but the parties should write.
-#[derive(Clone, Copy, Debug, PartialEq, Eq, Hash)]
-pub enum Meddling {
-    /// Another note in the slot that the recorder comes to next.
-    Slot,
-    HeadOn,
-    TailOn,
-    /// Bell NE put back by one.
-    BellBack,
-    /// Bit 5, shutdown, set with no bell raised.
-    ShutBit,
-    /// Another byte in the buffer of a pop that has copied and not yet delivered.
-    BufferBeforeStore,
-    /// Another byte in the buffer of a pop that has delivered and not yet answered.
-    BufferAfterStore,
 }
 
 #[derive(Clone, Copy, Debug, PartialEq, Eq, Hash)]
@@ -96,6 +80,13 @@ impl State {
         self.bench.party(side).step
     }
 
+    pub fn bell(&self, bell: Bell) -> u32 {
+        match bell {
+            Bell::Ne => self.ne,
+            Bell::Nf => self.nf,
+        }
+    }
+
     pub fn waiting(&self) -> u64 {
         self.head.wrapping_sub(self.tail)
     }
@@ -123,12 +114,30 @@ impl State {
     }
 }
 
+/// Who sleeps on a bell.
+pub fn sleeper(bell: Bell) -> Side {
+    match Side::Sender.sleeps_on() == bell {
+        true => Side::Sender,
+        false => Side::Recorder,
+    }
+}
+
 pub fn number_after(number: u8, more: u8) -> u8 {
     number.wrapping_add(more) % NUMBERS
 }
 
 pub fn number_before(number: u8, less: u8) -> u8 {
     number.wrapping_sub(less) % NUMBERS
+}
+
+fn put(region: &mut [u8], at: usize, bytes: &[u8]) {
+    region[at..at + bytes.len()].copy_from_slice(bytes);
+}
+
+fn word(region: &[u8], at: usize) -> u32 {
+    let mut bytes = [0; 4];
+    bytes.copy_from_slice(&region[at..at + 4]);
+    u32::from_le_bytes(bytes)
 }
 
 /// A region of one size with rules to play on it.
@@ -182,28 +191,31 @@ impl Machine {
         self.turns.bell
     }
 
-    /// What an event makes of a state, and its answer; a meddler gets none.
-    pub fn play(&mut self, state: &State, event: Event) -> (State, Answer) {
-        let mut after = *state;
-        let bench = &mut after.bench;
-        let answer = match event {
-            Event::Turn(side) => self.turn(&mut after, side, None),
-            Event::Fails(side, error) => self.turn(&mut after, side, Some(error)),
-            Event::Spurious(side) => bench.party_mut(side).spurious_return(side),
-            Event::TimeOut(side) => bench.party_mut(side).time_out(side),
-            Event::Push { blocking } => {
-                let tag = u16::from(state.sent);
-                bench.sender.begin_push(blocking, tag, LENGTH)
-            }
-            Event::Pop { blocking } => bench.recorder.begin_pop(blocking, LENGTH),
-            Event::Close(side) => bench.party_mut(side).begin_close(side),
-            Event::Shutdown(side) => bench.party_mut(side).begin_shutdown(side),
-            Event::Meddles(meddling) => {
-                meddle(&mut after, meddling);
-                Answer::Nothing
-            }
-        };
-        (after, answer)
+    fn lay(&mut self, state: &State) {
+        let region = &mut self.region;
+        put(region, Header::AT_HEAD, &state.head.to_le_bytes());
+        put(region, Header::AT_TAIL, &state.tail.to_le_bytes());
+        put(region, Header::AT_NE, &state.ne.to_le_bytes());
+        put(region, Header::AT_NF, &state.nf.to_le_bytes());
+        put(region, Header::AT_FLAGS, &state.flags.to_le_bytes());
+        let slots = region[Header::SIZE..].chunks_exact_mut(SLOT_SIZE as usize);
+        for (slot, &note) in slots.zip(&state.ring) {
+            slot[..9].copy_from_slice(&[LENGTH as u8, 0, note, 0, 0, 0, 0, 0, note]);
+        }
+    }
+
+    fn read_back(&mut self, state: &mut State) {
+        state.ne = word(&self.region, Header::AT_NE);
+        state.nf = word(&self.region, Header::AT_NF);
+        state.flags = word(&self.region, Header::AT_FLAGS);
+        let slots = self.region[Header::SIZE..].chunks_exact(SLOT_SIZE as usize);
+        for (slot, note) in slots.zip(&mut state.ring) {
+            *note = slot[2];
+        }
+        if let Some(header) = Header::of(&mut self.region) {
+            state.head = header.head();
+            state.tail = header.tail();
+        }
     }
 
     fn turn(&mut self, state: &mut State, side: Side, failure: Option<u16>) -> Answer {
@@ -232,56 +244,27 @@ impl Machine {
         answer
     }
 
-    fn lay(&mut self, state: &State) {
-        let region = &mut self.region;
-        put(region, Header::AT_HEAD, &state.head.to_le_bytes());
-        put(region, Header::AT_TAIL, &state.tail.to_le_bytes());
-        put(region, Header::AT_NE, &state.ne.to_le_bytes());
-        put(region, Header::AT_NF, &state.nf.to_le_bytes());
-        put(region, Header::AT_FLAGS, &state.flags.to_le_bytes());
-        let slots = region[Header::SIZE..].chunks_exact_mut(SLOT_SIZE as usize);
-        for (slot, &note) in slots.zip(&state.ring) {
-            slot[..9].copy_from_slice(&[LENGTH as u8, 0, note, 0, 0, 0, 0, 0, note]);
-        }
-    }
-
-    fn read_back(&mut self, state: &mut State) {
-        state.ne = word(&self.region, Header::AT_NE);
-        state.nf = word(&self.region, Header::AT_NF);
-        state.flags = word(&self.region, Header::AT_FLAGS);
-        let slots = self.region[Header::SIZE..].chunks_exact(SLOT_SIZE as usize);
-        for (slot, note) in slots.zip(&mut state.ring) {
-            *note = slot[2];
-        }
-        if let Some(header) = Header::of(&mut self.region) {
-            state.head = header.head();
-            state.tail = header.tail();
-        }
-    }
-}
-
-fn put(region: &mut [u8], at: usize, bytes: &[u8]) {
-    region[at..at + bytes.len()].copy_from_slice(bytes);
-}
-
-fn word(region: &[u8], at: usize) -> u32 {
-    let mut bytes = [0; 4];
-    bytes.copy_from_slice(&region[at..at + 4]);
-    u32::from_le_bytes(bytes)
-}
-
-fn meddle(state: &mut State, meddling: Meddling) {
-    match meddling {
-        Meddling::Slot => {
-            let slot = state.slot_of(state.tail);
-            state.ring[slot] = number_after(state.ring[slot], NUMBERS / 2);
-        }
-        Meddling::HeadOn => state.head = state.head.wrapping_add(1),
-        Meddling::TailOn => state.tail = state.tail.wrapping_add(1),
-        Meddling::BellBack => state.ne = state.ne.wrapping_sub(1),
-        Meddling::ShutBit => state.flags |= Header::SHUTDOWN,
-        Meddling::BufferBeforeStore | Meddling::BufferAfterStore => {
-            state.buffer = number_after(state.buffer, NUMBERS / 2);
-        }
+    /// What an event makes of a state, and its answer; a meddler gets none.
+    pub fn play(&mut self, state: &State, event: Event) -> (State, Answer) {
+        let mut after = *state;
+        let bench = &mut after.bench;
+        let answer = match event {
+            Event::Turn(side) => self.turn(&mut after, side, None),
+            Event::Fails(side, error) => self.turn(&mut after, side, Some(error)),
+            Event::Spurious(side) => bench.party_mut(side).spurious_return(side),
+            Event::TimeOut(side) => bench.party_mut(side).time_out(side),
+            Event::Push { blocking } => {
+                let tag = u16::from(state.sent);
+                bench.sender.begin_push(blocking, tag, LENGTH)
+            }
+            Event::Pop { blocking } => bench.recorder.begin_pop(blocking, LENGTH),
+            Event::Close(side) => bench.party_mut(side).begin_close(side),
+            Event::Shutdown(side) => bench.party_mut(side).begin_shutdown(side),
+            Event::Meddles(meddling) => {
+                meddle(&mut after, meddling);
+                Answer::Nothing
+            }
+        };
+        (after, answer)
     }
 }

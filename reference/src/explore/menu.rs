@@ -1,12 +1,42 @@
 //! What may happen in a state.
 
-use super::machine::{Event, Meddling, State};
+use super::machine::{sleeper, Event, State};
+use super::meddling::Meddling;
 use crate::answer::Bell;
 use crate::party::{CloseTurn, Party, ShutTurn, Side, Step};
 use crate::turn::{EINTR, ETIMEDOUT};
 
 /// An error that is neither a spurious return nor a time-out.
 const EINVAL: u16 = 22;
+
+/// The bell that a party's next turn wakes on, if it is a wake.
+fn wakes(party: &Party) -> Option<Bell> {
+    match party.step {
+        Step::P6 => Some(Bell::Ne),
+        Step::C6 { .. } => Some(Bell::Nf),
+        Step::Close(CloseTurn::WakeAll) => Some(party.side.other().sleeps_on()),
+        Step::Shut { turn, .. } => match turn {
+            ShutTurn::WakeNe => Some(Bell::Ne),
+            ShutTurn::WakeNf => Some(Bell::Nf),
+            ShutTurn::SetBit | ShutTurn::RaiseNe | ShutTurn::RaiseNf => None,
+        },
+        _ => None,
+    }
+}
+
+/// Whether a meddling has something to meddle with.
+fn open(state: &State, meddling: Meddling) -> bool {
+    let pop = state.step(Side::Recorder);
+    match meddling {
+        Meddling::Slot => state.waiting() > 0,
+        Meddling::BufferBeforeStore => matches!(pop, Step::C3 { .. }),
+        Meddling::BufferAfterStore => {
+            matches!(pop, Step::C4 { .. } | Step::C5 { .. } | Step::C6 { .. })
+        }
+        Meddling::BellBack => state.ne > 0,
+        Meddling::HeadOn | Meddling::TailOn | Meddling::ShutBit => true,
+    }
+}
 
 /// What an exploration offers beside turns, pushes and pops, in the try and the blocking form.
 #[derive(Clone, Copy)]
@@ -63,25 +93,10 @@ impl Menu {
         }
     }
 
-    pub fn offers(&self, state: &State) -> Vec<Event> {
-        let mut events = self.offers_to(state, Side::Sender);
-        events.extend(self.offers_to(state, Side::Recorder));
-        let meddling = self
-            .meddling
-            .iter()
-            .filter(|&&meddling| open(state, meddling));
-        events.extend(meddling.map(|&meddling| Event::Meddles(meddling)));
-        events
-    }
-
-    /// What a party may do itself. What would be refused is left out: it changes nothing.
-    pub fn offers_to(&self, state: &State, side: Side) -> Vec<Event> {
-        let party = state.bench.party(side);
-        match party.step {
-            Step::Rest => self.begins(party),
-            Step::Asleep => self.wakings(side),
-            _ => self.turns(state, party),
-        }
+    fn may_fail(&self, state: &State, bell: Bell) -> bool {
+        let sleeper = sleeper(bell);
+        let asleep = state.step(sleeper) == Step::Asleep;
+        self.wakes_fail && !(asleep && self.lands.contains(&sleeper))
     }
 
     fn begins(&self, party: &Party) -> Vec<Event> {
@@ -137,41 +152,24 @@ impl Menu {
         events
     }
 
-    fn may_fail(&self, state: &State, bell: Bell) -> bool {
-        let sleeper = match bell {
-            Bell::Ne => Side::Recorder,
-            Bell::Nf => Side::Sender,
-        };
-        let asleep = state.step(sleeper) == Step::Asleep;
-        self.wakes_fail && !(asleep && self.lands.contains(&sleeper))
-    }
-}
-
-/// The bell that a party's next turn wakes on, if it is a wake.
-fn wakes(party: &Party) -> Option<Bell> {
-    match party.step {
-        Step::P6 => Some(Bell::Ne),
-        Step::C6 { .. } => Some(Bell::Nf),
-        Step::Close(CloseTurn::WakeAll) => Some(party.side.other().sleeps_on()),
-        Step::Shut { turn, .. } => match turn {
-            ShutTurn::WakeNe => Some(Bell::Ne),
-            ShutTurn::WakeNf => Some(Bell::Nf),
-            ShutTurn::SetBit | ShutTurn::RaiseNe | ShutTurn::RaiseNf => None,
-        },
-        _ => None,
-    }
-}
-
-/// Whether a meddling has something to meddle with.
-fn open(state: &State, meddling: Meddling) -> bool {
-    let pop = state.step(Side::Recorder);
-    match meddling {
-        Meddling::Slot => state.waiting() > 0,
-        Meddling::BufferBeforeStore => matches!(pop, Step::C3 { .. }),
-        Meddling::BufferAfterStore => {
-            matches!(pop, Step::C4 { .. } | Step::C5 { .. } | Step::C6 { .. })
+    /// What a party may do itself. What would be refused is left out: it changes nothing.
+    pub fn offers_to(&self, state: &State, side: Side) -> Vec<Event> {
+        let party = state.bench.party(side);
+        match party.step {
+            Step::Rest => self.begins(party),
+            Step::Asleep => self.wakings(side),
+            _ => self.turns(state, party),
         }
-        Meddling::BellBack => state.ne > 0,
-        Meddling::HeadOn | Meddling::TailOn | Meddling::ShutBit => true,
+    }
+
+    pub fn offers(&self, state: &State) -> Vec<Event> {
+        let mut events = self.offers_to(state, Side::Sender);
+        events.extend(self.offers_to(state, Side::Recorder));
+        let meddling = self
+            .meddling
+            .iter()
+            .filter(|&&meddling| open(state, meddling));
+        events.extend(meddling.map(|&meddling| Event::Meddles(meddling)));
+        events
     }
 }

@@ -1,6 +1,6 @@
 //! Every order of turns of a small ring, walked through to the end.
 //!
-//! `machine` plays one event on a state; `normal` makes states that differ by nothing but their
+//! `machine` plays one event on a state, a `meddling` too; `normal` makes states that differ by nothing but their
 //! counting equal, so that there are finitely many; `menu` says what may happen; `search` walks
 //! breadth first and finds a shortest run that breaks a claim; `afterwards` follows a sleeper
 //! from there; `bounds` counts a party's own turns. `story` tells a run turn by turn, `tables` the numbers. `lost` and `needed` are the
@@ -12,6 +12,7 @@ pub mod bounds;
 pub mod claims;
 pub mod lost;
 pub mod machine;
+mod meddling;
 pub mod menu;
 pub mod needed;
 pub mod normal;
@@ -21,7 +22,8 @@ mod story;
 mod tables;
 
 pub use claims::Claim;
-pub use machine::{Event, Machine, Meddling, State, Turns};
+pub use machine::{Event, Machine, State, Turns};
+pub use meddling::Meddling;
 pub use menu::Menu;
 pub use report::Report;
 pub use search::Walk;

@@ -2,7 +2,8 @@
 //! the numbers that show that it is not needed.
 
 use super::claims::Claim;
-use super::machine::{Machine, Meddling, Turns};
+use super::machine::{Machine, Turns};
+use super::meddling::Meddling;
 use super::menu::Menu;
 use super::report::Report;
 use super::search::Walk;
@@ -104,7 +105,7 @@ fn bell() -> Report {
         CAUSE,
     );
     report.line("\nThe most raises that a wait finds since its epoch, at capacities 2 and 4:\n");
-    tables::raises(&mut report);
+    tables::raise_counts(&mut report);
     report.line(
         "\nAs with wakes that fail, the numbers of T2 and T4 stay. With a bell of one bit:\n",
     );

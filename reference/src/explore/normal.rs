@@ -79,10 +79,7 @@ fn party(party: &mut Party, tail: u64, got: u8) {
 
 /// How often a bell was raised since the party on it read its epoch; 0 if it holds none.
 pub fn raises(state: &State, side: Side) -> u32 {
-    let bell = match side {
-        Side::Sender => state.nf,
-        Side::Recorder => state.ne,
-    };
+    let bell = state.bell(side.sleeps_on());
     epoch(state.step(side)).map_or(0, |epoch| bell.wrapping_sub(epoch))
 }
 

@@ -1,6 +1,7 @@
 //! A run told turn by turn: who, at which step, what was read or stored, what was answered.
 
-use super::machine::{Event, Machine, Meddling, State};
+use super::machine::{sleeper, Event, Machine, State};
+use super::meddling::Meddling;
 use crate::answer::{Answer, Bell};
 use crate::header::Header;
 use crate::party::{CloseTurn, ShutTurn, Side, Step};
@@ -45,11 +46,7 @@ fn flags_words(flags: u32) -> String {
 
 impl Scene<'_> {
     fn bell_of(&self, state: &State, bell: Bell) -> u32 {
-        let word = match bell {
-            Bell::Ne => state.ne,
-            Bell::Nf => state.nf,
-        };
-        word & self.bell
+        state.bell(bell) & self.bell
     }
 
     fn failure(&self) -> Option<u16> {
@@ -91,10 +88,7 @@ impl Scene<'_> {
     }
 
     fn wakes(&self, count: &str, bell: Bell) -> String {
-        let sleeper = match bell {
-            Bell::Ne => Side::Recorder,
-            Bell::Nf => Side::Sender,
-        };
+        let sleeper = sleeper(bell);
         let asleep = |state: &State| state.step(sleeper) == Step::Asleep;
         let name = sleeper.name();
         let what = match (self.failure(), asleep(self.before)) {

@@ -3,6 +3,7 @@
 use super::bounds::{states, to_no_room, to_rest, Largest};
 use super::machine::{Machine, State, Turns};
 use super::menu::Menu;
+use super::normal::raises;
 use super::report::Report;
 use super::search::Walk;
 use crate::party::{Party, Side, Step};
@@ -80,15 +81,12 @@ fn most_raises(power: u8, menu: Menu, side: Side) -> u32 {
     };
     let found = walk.from_start(&mut machine).states;
     let waits = |state: &&State| matches!(state.step(side), Step::B5 { .. } | Step::W5 { .. });
-    let raised = |state: &State| match side {
-        Side::Sender => state.nf,
-        Side::Recorder => state.ne,
-    };
+    let raised = |state: &State| raises(state, side);
     found.iter().filter(waits).map(raised).max().unwrap_or(0)
 }
 
 /// A row for each sort of call that the other may make meanwhile.
-pub fn raises(report: &mut Report) {
+pub fn raise_counts(report: &mut Report) {
     let closes = Menu {
         closes: true,
         ..Menu::NOTES
