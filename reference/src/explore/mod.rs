@@ -1,11 +1,12 @@
 //! Every order of turns of a small ring, walked through to the end.
 //!
-//! `machine` plays one event on a state, a `meddling` too; `normal` makes states that differ by nothing but their
-//! counting equal, so that there are finitely many; `menu` says what may happen; `search` walks
-//! breadth first and finds a shortest run that breaks a claim; `afterwards` follows a sleeper
-//! from there; `bounds` counts a party's own turns. `story` tells a run turn by turn, `tables` the numbers. `lost` and `needed` are the
-//! two questions that are asked of all this: what a published rule loses, and what a premise
-//! is needed for.
+//! `machine` plays one event on a state, and `meddling` what a second writer does; `normal`
+//! makes states equal that differ only in how far they have counted, so that there are
+//! finitely many. `menu` says what may happen, `claims` what must hold. `search` walks breadth
+//! first to a shortest run that breaks a claim, `afterwards` follows a sleeper from there, and
+//! `bounds` counts a party's own turns. `story` tells a run turn by turn, `tables` the numbers,
+//! in a `report`. `lost` and `needed` are the two questions that are asked of all this: what a
+//! published rule loses, and what a premise is needed for.
 
 pub mod afterwards;
 pub mod bounds;
