@@ -92,9 +92,8 @@ fn main() -> ExitCode {
         },
         ("help" | "--help" | "-h", []) => say(USAGE),
         (
-            "play" | "random" | "compare" | "rounds" | "tour" | "write" | "read" | "help"
-            "play" | "random" | "compare" | "write" | "read" | "lost" | "needed" | "help"
-            | "--help" | "-h",
+            "play" | "random" | "compare" | "rounds" | "tour" | "write" | "read" | "lost"
+            | "needed" | "help" | "--help" | "-h",
             _,
         ) => {
             return usage(&format!(

@@ -2,13 +2,13 @@
 
 use std::collections::HashSet;
 
+use reference::dice::Dice;
 use reference::explore::afterwards::afterwards;
 use reference::explore::bounds::{states, to_no_room, to_rest, Counter, Stretch};
 use reference::explore::lost;
 use reference::explore::normal::normal;
 use reference::explore::{needed, Claim, Event, Machine, Meddling, Menu, State, Turns, Walk};
 use reference::published::NarrowBell;
-use reference::random::Dice;
 use reference::rules::Mended;
 use reference::{Answer, Side, Step};
 
