@@ -16,6 +16,7 @@ const PROVED: &str = "printf 'one proved\\ntwo proved\\n7 passed, 0 failed\\n'";
 /// What the tools do; each is a line of shell.
 struct Tools {
     format: &'static str,
+    stated: &'static str,
     prove: &'static str,
     tests: &'static str,
     rounds: &'static str,
@@ -24,6 +25,7 @@ struct Tools {
 
 const GOOD: Tools = Tools {
     format: "exit 0",
+    stated: "exit 0",
     prove: PROVED,
     tests: "exit 0",
     rounds: "echo 'same, 9 records in 1 scripts'",
@@ -36,6 +38,7 @@ fn folder(name: &str, tools: &Tools) -> PathBuf {
         fs::create_dir_all(folder.join(part)).unwrap();
     }
     fs::write(folder.join(".ci/run"), fs::read(GATE).unwrap()).unwrap();
+    executable(&folder.join(".ci/stated"), tools.stated);
     let rt = format!(
         "case \"$*\" in\n'fmt --check') {} ;;\nci) {} ;;\n*) exit 99 ;;\nesac",
         tools.format, tools.prove
@@ -118,6 +121,13 @@ fn whatever_fails_fails_the_gate() {
             "format",
             Tools {
                 format: bad,
+                ..GOOD
+            },
+        ),
+        (
+            "stated",
+            Tools {
+                stated: bad,
                 ..GOOD
             },
         ),
