@@ -26,7 +26,7 @@ use Rattle.rules.specs.Calls.{isSleeping, sound, ready, reply, at, named
 use Rattle.rules.specs.Bench.{settled, played, playedLeaves}
 use Rattle.rules.specs.Run.{Note, World, Happening, attaches, plays, partyIn, takes, happens, run, begin}
 use Rattle.rules.specs.Premises.{Typed, AllTyped, Fair, AllFair, FairTurn}
-use Rattle.rules.specs.Stretch.{tick, ticks, Wills, Willing, inCall, notesOf, counts, Big}
+use Rattle.rules.specs.Stretch.{beat, beats, Wills, Willing, inCall, notesOf, calling, countsBy, Big}
 use Rattle.rules.specs.Claims.{Fresh, reached, Bounded}
 use Rattle.rules.proofs.Leads.{stopAt}
 use Rattle.rules.proofs.Taken.{turnWorld}
@@ -132,9 +132,9 @@ module _ (P S v : ℕ) (on : Bool) where
 
   module _ (power-ok : powerOk P ≡ true) (slot-ok : slotOk S ≡ true) where
     turned : (w : World) → Real P S v on w → (side mover : Side) (payload lent : List ℕ) (fault : Fault) → mover ≡ side → Big side w → (takes w mover payload lent fault ≡ true → FairTurn side mover fault w) → Ready P S v on side w
-        → (notes : List Note) (n : ℕ) → Going P S v on side notes (counts w mover payload lent fault + n) w → Going P S v on side notes n (turnWorld w mover payload lent fault)
+        → (notes : List Note) (n : ℕ) → Going P S v on side notes (countsBy calling w mover payload lent fault + n) w → Going P S v on side notes n (turnWorld w mover payload lent fault)
     turned w real side mover payload lent fault e big f y notes n go =
-        subst (λ (m : Side). (takes w m payload lent fault ≡ true → FairTurn side m fault w) → Going P S v on side notes (counts w m payload lent fault + n) w → Going P S v on side notes n (turnWorld w m payload lent fault))
+        subst (λ (m : Side). (takes w m payload lent fault ≡ true → FairTurn side m fault w) → Going P S v on side notes (countsBy calling w m payload lent fault + n) w → Going P S v on side notes n (turnWorld w m payload lent fault))
         (sym e) (λ f go. going-turned P S v on power-ok slot-ok w real side payload lent fault notes n big (λ g. own-timely side fault w (f g)) y go) f go
 
     -- a begin is no turn
@@ -142,7 +142,7 @@ module _ (P S v : ℕ) (on : Bool) where
     no-tick notes n side w go = let e : 0 + n ≡ n = omega arith in subst (λ (m : ℕ). Going P S v on side notes m w) e go
 
     going-happens : (side : Side) (h : Happening) (w : World) → Typed h → Fair side h w → Wills side h w → Real P S v on w → Ready P S v on side w → (notes : List Note) (n : ℕ)
-        → Going P S v on side notes (tick h w + n) w → Going P S v on side notes n (happens h w)
+        → Going P S v on side notes (beat h w + n) w → Going P S v on side notes n (happens h w)
     unfolding happens played playedLeaves settled
     going-happens side (attaches other) w t f m real y notes n go = absurd m
     going-happens side (plays (Turn mover) i o) w t f m real y notes n go = turned w real side mover i o Fine (m .0) (m .1) f y notes n go
@@ -159,13 +159,13 @@ module _ (P S v : ℕ) (on : Bool) where
     going-happens side (plays (Shutdown mover) i o) w t f m real y notes n go = absurd m
 
     going-run : (side : Side) (hs : List Happening) (w : World) → AllTyped hs → AllFair side hs w → Willing side hs w → Real P S v on w → Ready P S v on side w → (notes : List Note) (n : ℕ)
-        → Going P S v on side notes (ticks hs w + n) w → Going P S v on side notes n (run hs w)
+        → Going P S v on side notes (beats hs w + n) w → Going P S v on side notes n (run hs w)
     unfolding run
     going-run side [] w t f m real y notes n go = no-tick notes n side w go
     going-run side (h ∷ hs) w t f m real y notes n go =
-        let e : tick h w + ticks hs (happens h w) + n ≡ tick h w + (ticks hs (happens h w) + n) = omega arith in
+        let e : beat h w + beats hs (happens h w) + n ≡ beat h w + (beats hs (happens h w) + n) = omega arith in
         going-run side hs (happens h w) (t .1) (f .1) (m .1) (real-happens P S v on power-ok slot-ok h w (t .0) real) (ready-happens P S v on power-ok slot-ok side h w (t .0) (f .0) real y) notes n
-        (going-happens side h w (t .0) (f .0) (m .0) real y notes (ticks hs (happens h w) + n) (subst (λ (u : ℕ). Going P S v on side notes u w) e go))
+        (going-happens side h w (t .0) (f .0) (m .0) real y notes (beats hs (happens h w) + n) (subst (λ (u : ℕ). Going P S v on side notes u w) e go))
 
 -- a run in two parts
 pub run-parts : (hs ms : List Happening) (w : World) → run (hs ++ ms) w ≡ run ms (run hs w)
@@ -191,8 +191,8 @@ module _ (r : List ℕ) (P S : ℕ) (on : Bool) (v : ℕ) (fresh : Fresh r P S o
       let notes = notesOf (other side) (w .trace) in
       let k = roomIn P S v on side (w .trace) in
       let x = roomIn P S v on (other side) (w .trace) in
-      let enough : cost (partyIn w side .step) k x ≤ ticks ms w + 0 = omega (arith, a .1, cost-le (partyIn w side .step) k x, room-is r P S on v fresh side hs (typed .0)) in
-      let start : Going P S v on side notes (ticks ms w + 0) w = record { quiet = still-duty (other side) (partyIn w (other side) .step) (a .0 .1 .1 .0); calls = in-call (partyIn w side .step) (a .0 .1 .1 .1 .0); left = enough; same = refl } in
+      let enough : cost (partyIn w side .step) k x ≤ beats ms w + 0 = omega (arith, a .1, cost-le (partyIn w side .step) k x, room-is r P S on v fresh side hs (typed .0)) in
+      let start : Going P S v on side notes (beats ms w + 0) w = record { quiet = still-duty (other side) (partyIn w (other side) .step) (a .0 .1 .1 .0); calls = in-call (partyIn w side .step) (a .0 .1 .1 .1 .0); left = enough; same = refl } in
       let end = going-run P S v on (power-fits r P S on v fresh) (slot-fits r P S on v fresh) side ms w (typed .1) (fair .1) (a .0 .1 .1 .1 .1) (real-reached r P S on v fresh hs (typed .0)) (ready-reached r P S on v fresh side hs (typed .0) (fair .0)) notes 0 start in
       let last = subst (Going P S v on side notes 0) (sym (run-parts hs ms (begin (created r P S on v)))) end in
       (room-is r P S on v fresh side (hs ++ ms) (a .0 .0) ∙ cost-none _ _ _ (last .left), last .same)

@@ -14,6 +14,8 @@ use Rattle.types.specs.declared.Party.{Party}
 use Rattle.types.specs.declared.Fault.{Fault}
 use Rattle.types.specs.declared.Step.{Step}
 use Rattle.types.specs.declared.Step.the-variants.{Rest, Look, Copy, Publish, Check, Raise, Wake, Gate, Epoch, Again, GateAgain, Wait, Asleep, CloseSet, CloseRaise, CloseWake, ShutSet, ShutRaiseNe, ShutWakeNe, ShutRaiseNf, ShutWakeNf}
+use Rattle.types.specs.declared.Stance.{Stance}
+use Rattle.types.specs.declared.Stance.the-variants.{Resting, Sleeping, Copying, Publishing, Closing, Moving}
 use Rattle.types.specs.declared.Access.{Access}
 use Rattle.layout.specs.Limits.{powerOk, slotOk}
 use Rattle.layout.specs.Header.{flagsAt, bellAt}
@@ -23,7 +25,7 @@ use Rattle.rules.specs.Next.{nextAt, nextSpec}
 use Rattle.rules.specs.Access.{valueOf, bufferOf}
 use Rattle.rules.specs.Turn.{errorOf}
 use Rattle.rules.specs.Run.{Note, Trace, World, partyIn, takes, traced}
-use Rattle.rules.specs.Stretch.{moves, counts, Big, notesOf}
+use Rattle.rules.specs.Stretch.{moves, calling, countsBy, Big, notesOf}
 use Rattle.rules.proofs.Leads.{stopAt, Leads}
 use Rattle.rules.proofs.Does.{Does, does, nothing, looks, flags, reads, writes, takes as read, stores, raises, closes, shuts, waits as wait, wakes}
 use Rattle.rules.proofs.Taken.{turnWorld, turn-refused}
@@ -37,7 +39,7 @@ use Rattle.rules.proofs.Fairly.{Ready, dozes}
 use Rattle.rules.proofs.Fits.{no-spill}
 use Rattle.rules.proofs.Real.{waits, phase, roomIn, rungOf, Since, HasRoom, Real}
 
--- the two steps that no turn counts at, and the others
+-- the two steps that no turn leads on from, and the others
 pub data Kind : Step → Type 0 where
   rests : Kind Rest
   dreams : Kind Asleep
@@ -71,6 +73,14 @@ moves-off s u a b e =
     let q : true ≡ false = sym a ∙ ap (λ (x : Step). moves (stanceOf x)) e ∙ b in
     let z : _≡_ {A = ℕ} 0 1 = cc in omega arith
 
+pub moves-call : (s : Stance) → moves s ≡ true → calling s ≡ true
+moves-call Resting e = e
+moves-call Sleeping e = refl
+moves-call Copying e = refl
+moves-call Publishing e = refl
+moves-call Closing e = refl
+moves-call Moving e = refl
+
 -- no room stays no room
 pub own-room-none : (s : Step) → ownRoom s 0 ≡ 0
 own-room-none Rest = refl
@@ -100,12 +110,12 @@ cost-zero s next x = ap (λ (k : ℕ). cost next k x) (own-room-none s)
 
 -- one turn: by the room, and by whether it counts
 turn-cost : (k x : ℕ) (z m r : Bool) (b n : ℕ) (s next : Step) → Leads k x z m r b s next → Kind s → Calls (phase s) → (s ≡ Rest → next ≡ Rest) → (0 < k → s ≡ Asleep → ⊥) → (0 < k → s ≡ Copy → next ≡ Rest → ⊥)
-    → (0 < k → (e : ℕ) → s ≡ Wait e → b ≡ e → ⊥) → cost s k x ≤ pick (moves (stanceOf s)) 1 0 + n → cost next (ownRoom s k) (roomBy s x) ≤ n
+    → (0 < k → (e : ℕ) → s ≡ Wait e → b ≡ e → ⊥) → cost s k x ≤ pick (calling (stanceOf s)) 1 0 + n → cost next (ownRoom s k) (roomBy s x) ≤ n
 turn-cost zero x z m r b n s next leads kind c i j f d h = omega (arith, cost-zero s next (roomBy s x))
 turn-cost (suc k) x z m r b n s next leads rests c i j f d h = rw (i refl) (omega arith)
 turn-cost (suc k) x z m r b n s next leads dreams c i j f d h = absurd (j (omega arith) refl)
 turn-cost (suc k) x z m r b n s next leads (acts move) c i j f d h =
-    let l : cost s (suc k) x ≤ 1 + n = rw move at h in
+    let l : cost s (suc k) x ≤ 1 + n = rw (moves-call (stanceOf s) move) at h in
     omega (arith, fall k x z m r b s next leads c (moves-off s Rest move refl) (moves-off s Asleep move refl) (f (omega arith)) (d (omega arith)))
 
 -- a turn changes its own party's notes alone
@@ -207,7 +217,7 @@ module _ (P S v : ℕ) (on : Bool) where
           (subst (λ (u : Step). Since (phase u) (leAt 4 (w .region) (bellAt (sleepBell side))) (rungOf side t)) at (real .sides side .since)) b)
           y c
 
-      going-taken : (notes : List Note) (n : ℕ) → Big side w → ((e : ℕ) → s ≡ Wait e → rungOf side t < 2 ^ 32) → Ready P S v on side w → Going side notes (pick (moves (stanceOf s)) 1 0 + n) w → Going side notes n after
+      going-taken : (notes : List Note) (n : ℕ) → Big side w → ((e : ℕ) → s ≡ Wait e → rungOf side t < 2 ^ 32) → Ready P S v on side w → Going side notes (pick (calling (stanceOf s)) 1 0 + n) w → Going side notes n after
       going-taken notes n big timely y go =
           let leads = leads-here P S v on power-ok slot-ok w real side payload lent fault g in
           let me = mover-is P S v on power-ok slot-ok w real side payload lent fault g in
@@ -225,14 +235,14 @@ module _ (P S v : ℕ) (on : Bool) where
           }
 
     pub going-turned : (notes : List Note) (n : ℕ) → Big side w → (takes w side payload lent fault ≡ true → (e : ℕ) → s ≡ Wait e → rungOf side t < 2 ^ 32) → Ready P S v on side w
-        → Going side notes (counts w side payload lent fault + n) w → Going side notes n (turnWorld w side payload lent fault)
+        → Going side notes (countsBy calling w side payload lent fault + n) w → Going side notes n (turnWorld w side payload lent fault)
     going-turned notes n big timely y go = by (takes w side payload lent fault) refl
       where
         by : (b : Bool) → takes w side payload lent fault ≡ b → Going side notes n (turnWorld w side payload lent fault)
         by true g =
             subst (Going side notes n) (sym (turn-is-after P S v on power-ok slot-ok w real side payload lent fault g))
-            (going-taken g notes n big (timely g) y (subst (λ (b : Bool). Going side notes (pick (b && moves (stanceOf s)) 1 0 + n) w) g go))
+            (going-taken g notes n big (timely g) y (subst (λ (b : Bool). Going side notes (pick (b && calling (stanceOf s)) 1 0 + n) w) g go))
         by false g =
             let e : 0 + n ≡ n = omega arith in
             subst (Going side notes n) (sym (turn-refused w side payload lent fault g))
-            (subst (λ (m : ℕ). Going side notes m w) e (subst (λ (b : Bool). Going side notes (pick (b && moves (stanceOf s)) 1 0 + n) w) g go))
+            (subst (λ (m : ℕ). Going side notes m w) e (subst (λ (b : Bool). Going side notes (pick (b && calling (stanceOf s)) 1 0 + n) w) g go))

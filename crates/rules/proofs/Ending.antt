@@ -32,7 +32,7 @@ use Rattle.rules.specs.Calls.{pushSpec, popSpec, closeSpec, shutSpec, sp
 use Rattle.rules.specs.Bench.{settled, played, playedLeaves}
 use Rattle.rules.specs.Run.{World, Happening, attaches, plays, partyIn, takes, happens, run, begin}
 use Rattle.rules.specs.Premises.{Typed, AllTyped, Fair, AllFair, FairTurn}
-use Rattle.rules.specs.Stretch.{moves, counts, tick, ticks, Does, AllOwn}
+use Rattle.rules.specs.Stretch.{calling, countsBy, beat, beats, Does, AllOwn}
 use Rattle.rules.specs.Claims.{Fresh, reached, Ends}
 use Rattle.rules.proofs.After.{flagsBy}
 use Rattle.rules.proofs.Leads.{stopAt, Leads}
@@ -46,7 +46,7 @@ use Rattle.rules.proofs.Nearer.{toRest, seven, rested, nearer}
 use Rattle.rules.proofs.Listening.{duty-kept, mover-is, waiter-is, flags-left}
 use Rattle.rules.proofs.Fairly.{Ready, ready-happens, still-duty, dozes}
 use Rattle.rules.proofs.Causes.{ready-reached}
-use Rattle.rules.proofs.Bound.{Kind, rests, dreams, acts, kind, moves-off, wakeful}
+use Rattle.rules.proofs.Bound.{moves-call, Kind, rests, dreams, acts, kind, moves-off, wakeful}
 use Rattle.rules.proofs.Asks.{own-timely, run-parts, typed-parts, fair-parts}
 use Rattle.rules.proofs.Real.{roomIn, rungOf, Real}
 
@@ -137,28 +137,28 @@ module _ (P S v : ℕ) (on : Bool) where
             fell .1,
           )
 
-      turned-ends : Kind s → (takes w side payload lent fault ≡ true → (e : ℕ) → s ≡ Wait e → rungOf side (w .trace) < 2 ^ 32) → Then side n (counts w side payload lent fault) (turnWorld w side payload lent fault)
-      turned-ends k timely = by (takes w side payload lent fault) refl (moves (stanceOf s)) refl
+      turned-ends : Kind s → (takes w side payload lent fault ≡ true → (e : ℕ) → s ≡ Wait e → rungOf side (w .trace) < 2 ^ 32) → Then side n (countsBy calling w side payload lent fault) (turnWorld w side payload lent fault)
+      turned-ends k timely = by (takes w side payload lent fault) refl (calling (stanceOf s)) refl
         where
-          still : (u : Step) → s ≡ u → Kind u → moves (stanceOf u) ≡ true
+          still : (u : Step) → s ≡ u → Kind u → calling (stanceOf u) ≡ true
           still u e rests = absurd (i e)
           still u e dreams = absurd (awake side n w y d e)
-          still u e (acts move) = move
+          still u e (acts move) = moves-call (stanceOf u) move
 
-          by : (b : Bool) → takes w side payload lent fault ≡ b → (m : Bool) → moves (stanceOf s) ≡ m → Then side n (pick (b && m) 1 0) (turnWorld w side payload lent fault)
+          by : (b : Bool) → takes w side payload lent fault ≡ b → (m : Bool) → calling (stanceOf s) ≡ m → Then side n (pick (b && m) 1 0) (turnWorld w side payload lent fault)
           by false g m e = subst (Then side n 0) (sym (turn-refused w side payload lent fault g)) (then-same side n w d)
           by true g true e = subst (Then side n 1) (sym (turn-is-after P S v on power-ok slot-ok w real side payload lent fault g)) (taken-ends g (timely g))
           by true g false e = absurd (let q = still s refl k in let z : _≡_ {A = ℕ} 0 1 = cc in omega arith)
 
     -- a turn by its mover's name
     turned : (w : World) → Real P S v on w → (side mover : Side) (payload lent : List ℕ) (fault : Fault) → mover ≡ side → (takes w mover payload lent fault ≡ true → FairTurn side mover fault w) → Ready P S v on side w
-        → (n : ℕ) → Ending side n w → (partyIn w side .step ≡ Rest → ⊥) → Then side n (counts w mover payload lent fault) (turnWorld w mover payload lent fault)
+        → (n : ℕ) → Ending side n w → (partyIn w side .step ≡ Rest → ⊥) → Then side n (countsBy calling w mover payload lent fault) (turnWorld w mover payload lent fault)
     turned w real side mover payload lent fault e f y n d i =
-        subst (λ (m : Side). (takes w m payload lent fault ≡ true → FairTurn side m fault w) → Then side n (counts w m payload lent fault) (turnWorld w m payload lent fault))
+        subst (λ (m : Side). (takes w m payload lent fault ≡ true → FairTurn side m fault w) → Then side n (countsBy calling w m payload lent fault) (turnWorld w m payload lent fault))
         (sym e) (λ f. turned-ends w real side payload lent fault y n d i (kind (partyIn w side .step)) (λ g. own-timely side fault w (f g))) f
 
     ending-happens : (side : Side) (h : Happening) (w : World) → Typed h → Fair side h w → Does side h → Real P S v on w → Ready P S v on side w → (n : ℕ) → Ending side n w → (partyIn w side .step ≡ Rest → ⊥)
-        → Then side n (tick h w) (happens h w)
+        → Then side n (beat h w) (happens h w)
     unfolding happens played playedLeaves settled
     ending-happens side (attaches mover) w t f m real y n d i = absurd m
     ending-happens side (plays (Turn mover) b o) w t f m real y n d i = turned w real side mover b o Fine m f y n d i
@@ -174,16 +174,16 @@ module _ (P S v : ℕ) (on : Bool) where
 
     -- the first part of a stretch after which the call has ended
     abbrev pub Ended : Side → List Happening → (n : ℕ) → World → Type 0
-    Ended side ms n w = (first : List Happening) × ((rest : List Happening) × ((ms ≡ first ++ rest) × ((ticks first w ≤ n) × (partyIn (run first w) side .step ≡ Rest))))
+    Ended side ms n w = (first : List Happening) × ((rest : List Happening) × ((ms ≡ first ++ rest) × ((beats first w ≤ n) × (partyIn (run first w) side .step ≡ Rest))))
 
-    ending-run : (side : Side) (ms : List Happening) (w : World) → AllTyped ms → AllFair side ms w → AllOwn side ms → Real P S v on w → Ready P S v on side w → (n : ℕ) → Ending side n w → n ≤ ticks ms w → Ended side ms n w
+    ending-run : (side : Side) (ms : List Happening) (w : World) → AllTyped ms → AllFair side ms w → AllOwn side ms → Real P S v on w → Ready P S v on side w → (n : ℕ) → Ending side n w → n ≤ beats ms w → Ended side ms n w
     unfolding run
     ending-run side [] w t f m real y n d l = ([], ([], (refl, (omega arith, rested (partyIn w side .step) (awake side n w y d) (omega (arith, d .left))))))
     ending-run side (h ∷ ms) w t f m real y n d l =
         by (partyIn w side .step) refl (kind (partyIn w side .step))
         (λ i.
         let one = ending-happens side h w (t .0) (f .0) (m .0) real y n d i in
-        let more = ending-run side ms (happens h w) (t .1) (f .1) (m .1) (real-happens P S v on power-ok slot-ok h w (t .0) real) (ready-happens P S v on power-ok slot-ok side h w (t .0) (f .0) real y) (n - tick h w) (one .0)
+        let more = ending-run side ms (happens h w) (t .1) (f .1) (m .1) (real-happens P S v on power-ok slot-ok h w (t .0) real) (ready-happens P S v on power-ok slot-ok side h w (t .0) (f .0) real y) (n - beat h w) (one .0)
         (omega (arith, one .1)) in
         (h ∷ more .0, (more .1 .0, (ap (λ (u : List Happening). h ∷ u) (more .1 .1 .0), (omega (arith, more .1 .1 .1 .0, one .1), more .1 .1 .1 .1)))))
       where

@@ -34,7 +34,7 @@ use Rattle.words.specs.Wrap.{plus, minus}
 use Rattle.words.proofs.Runs.{and-left, and-right}
 use Rattle.rules.specs.Run.{Note, partyIn, World, Happening, attaches, plays, begin}
 use Rattle.rules.specs.Premises.{AllTyped, rung, FairTurn, Fair, AllFair}
-use Rattle.rules.specs.Stretch.{ticks, Big, Wills, Willing, inCall}
+use Rattle.rules.specs.Stretch.{beats, Big, Wills, Willing, inCall}
 use Rattle.rules.specs.Claims.{room, Fresh, Tight}
 
 abbrev start : List ℕ
@@ -154,7 +154,7 @@ made = run before (begin start)
 -- computed, byte by byte
 computed :
     (createAnswer 416 1 16 ≡ Done 0 0) × (calm (before ++ ten) (begin start) ≡ true) × (asks ten made ≡ true) × (partyIn made Sender .step ≡ Rest) × (inCall (partyIn made Recorder .step) ≡ true)
-    × (room Recorder (capacity 1) made ≡ 2) × (ticks ten made ≡ 10) × (room Recorder (capacity 1) (run (before ++ ten) (begin start)) ≡ 1)
+    × (room Recorder (capacity 1) made ≡ 2) × (beats ten made ≡ 10) × (room Recorder (capacity 1) (run (before ++ ten) (begin start)) ≡ 1)
 unfolding magicOk versionOk sizesOk flagChecks ringChecks attachChecks attachAnswer attachReply attachLeaves createAnswer created blank headed powerOk slotOk capacity payloadCapacity ringBytes totalBytes slotAt slotBytes slotPut bufferPut valueOf leavesOf bufferOf wakened settled turned played playedLeaves sound ready pushSpec popSpec roomOf wasBlocked doorOf fitOf napOf nextSpec happens run lookMove copyMove publishMove checkMove wakeMove gateMove againMove waitMove closeMove shutMove moveOf takeSpec goes runSpec runLeaves runBuffer turnSpec turnLeaves zeros bytesAre leAt leBytes putLe plus minus
 computed = (refl, refl, refl, refl, refl, refl, refl, refl)
 

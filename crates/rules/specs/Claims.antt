@@ -24,7 +24,7 @@ use Rattle.rules.specs.Calls.{sound, at, named, pushSpec, popSpec, close
 use Rattle.rules.specs.Turn.{turnSpec}
 use Rattle.rules.specs.Run.{Note, Trace, World, Happening, plays, partyIn, takes, happens, run, begin}
 use Rattle.rules.specs.Premises.{AllTyped, AllFair, AllLand, rung, partings, Still, down, closedBit}
-use Rattle.rules.specs.Stretch.{ticks, AllOwn, Willing, inCall, notesOf, holdsEpoch, Underway, inWait, Turns}
+use Rattle.rules.specs.Stretch.{ticks, beats, AllOwn, Willing, inCall, notesOf, holdsEpoch, Underway, inWait, Turns}
 
 -- how many notes wait: head − tail, in the region's bytes
 abbrev pub waiting : World → ℕ
@@ -119,9 +119,9 @@ module _ (region : List ℕ) (power slot : ℕ) (notfull : Bool) (start : ℕ) w
       × (AllFair side (hs ++ ms) (begin (created region power slot notfull start))
       × (Still (other side) (reached hs) × ((inCall (partyIn (reached hs) side .step) ≡ true) × Willing side ms (reached hs))))
 
-  -- .. for at least 4 times its room, and 3, turns of its own ..
+  -- .. for at least 4 times its room, and 3, turns of its own, those it sleeps through counted too ..
   abbrev pub Alone : Side → (hs ms : List Happening) → Type 0
-  Alone side hs ms = Going side hs ms × (4 * room side (capacity power) (reached hs) + 3 ≤ ticks ms (reached hs))
+  Alone side hs ms = Going side hs ms × (4 * room side (capacity power) (reached hs) + 3 ≤ beats ms (reached hs))
 
   -- .. no room is left, and not because the other did anything
   abbrev pub Bounded : Side → Type 0
@@ -142,15 +142,15 @@ module _ (region : List ℕ) (power slot : ℕ) (notfull : Bool) (start : ℕ) w
   abbrev pub Tight : Type 0
   Tight =
       (hs : List Happening) × ((ms : List Happening) × (Going Recorder hs ms
-      × ((4 * room Recorder (capacity power) (reached hs) + 2 ≡ ticks ms (reached hs)) × (room Recorder (capacity power) (reached (hs ++ ms)) ≡ 1))))
+      × ((4 * room Recorder (capacity power) (reached hs) + 2 ≡ beats ms (reached hs)) × (room Recorder (capacity power) (reached (hs ++ ms)) ≡ 1))))
 
   -- T4: once the other has closed or anyone has shut down, and the other is between calls or asleep and not moving, a call
-  -- under way answers within 7 turns of its own, whatever its waits do and whatever it asks meanwhile
+  -- under way answers within 7 turns of its own, asleep or not, whatever its waits do and whatever it asks meanwhile
   abbrev pub Ends : Side → Type 0
   Ends side = (hs ms : List Happening) → AllTyped (hs ++ ms) → AllFair side (hs ++ ms) (begin (created region power slot notfull start))
       → Still (other side) (reached hs) → (down (reached hs) || closedBit (other side) (reached hs)) ≡ true → AllOwn side ms
-      → 7 ≤ ticks ms (reached hs)
-      → (first : List Happening) × ((rest : List Happening) × ((ms ≡ first ++ rest) × ((ticks first (reached hs) ≤ 7) × (partyIn (reached (hs ++ first)) side .step ≡ Rest))))
+      → 7 ≤ beats ms (reached hs)
+      → (first : List Happening) × ((rest : List Happening) × ((ms ≡ first ++ rest) × ((beats first (reached hs) ≤ 7) × (partyIn (reached (hs ++ first)) side .step ≡ Rest))))
 
   -- T9: a party alone in a blocking call with no room, nobody closed or shut down, no wait failing, is asleep within 9 turns of
   -- its own, and within 6 of its look ..

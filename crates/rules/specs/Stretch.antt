@@ -19,7 +19,7 @@ use Rattle.rules.specs.Take.{stanceOf}
 use Rattle.rules.specs.Premises.{rung}
 use Rattle.rules.specs.Run.{Note, Trace, World, Happening, attaches, plays, partyIn, takes, happens}
 
--- A stretch of one party's own doings. A turn counts where it answers neither 20 nor 253; a begin is no turn
+-- Document 01 counts a turn where it answers neither 20 nor 253; a begin is no turn
 abbrev pub moves : Stance → Bool
 moves Resting = false
 moves Sleeping = false
@@ -28,23 +28,50 @@ moves Publishing = true
 moves Closing = true
 moves Moving = true
 
+-- and a sleeper's turns with them, which answer 253: a party that sleeps over its room must not pass for one that gets it
+abbrev pub calling : Stance → Bool
+calling Resting = false
+calling Sleeping = true
+calling Copying = true
+calling Publishing = true
+calling Closing = true
+calling Moving = true
+
+module _ (counted : Stance → Bool) where
+  abbrev pub countsBy : World → Side → (payload lent : List ℕ) → Fault → ℕ
+  countsBy w side payload lent fault = pick (takes w side payload lent fault && counted (stanceOf (partyIn w side .step))) 1 0
+
+  abbrev pub tickBy : Happening → World → ℕ
+  tickBy (attaches other) w = 0
+  tickBy (plays (Turn mover) payload lent) w = countsBy w mover payload lent Fine
+  tickBy (plays (Failing mover error) payload lent) w = countsBy w mover payload lent (Error error)
+  tickBy (plays (Spurious mover) payload lent) w = 0
+  tickBy (plays (TimeOut mover) payload lent) w = 0
+  tickBy (plays (Push blocking tag length) payload lent) w = 0
+  tickBy (plays (Pop blocking length) payload lent) w = 0
+  tickBy (plays (Close mover) payload lent) w = 0
+  tickBy (plays (Shutdown mover) payload lent) w = 0
+
+  abbrev pub ticksBy : List Happening → World → ℕ
+  ticksBy [] w = 0
+  ticksBy (h ∷ hs) w = tickBy h w + ticksBy hs (happens h w)
+
+-- document 01's turns
 abbrev pub counts : World → Side → (payload lent : List ℕ) → Fault → ℕ
-counts w side payload lent fault = pick (takes w side payload lent fault && moves (stanceOf (partyIn w side .step))) 1 0
+counts = countsBy moves
 
 abbrev pub tick : Happening → World → ℕ
-tick (attaches other) w = 0
-tick (plays (Turn mover) payload lent) w = counts w mover payload lent Fine
-tick (plays (Failing mover error) payload lent) w = counts w mover payload lent (Error error)
-tick (plays (Spurious mover) payload lent) w = 0
-tick (plays (TimeOut mover) payload lent) w = 0
-tick (plays (Push blocking tag length) payload lent) w = 0
-tick (plays (Pop blocking length) payload lent) w = 0
-tick (plays (Close mover) payload lent) w = 0
-tick (plays (Shutdown mover) payload lent) w = 0
+tick = tickBy moves
 
 abbrev pub ticks : List Happening → World → ℕ
-ticks [] w = 0
-ticks (h ∷ hs) w = tick h w + ticks hs (happens h w)
+ticks = ticksBy moves
+
+-- a party's turns in a call, asleep or not
+abbrev pub beat : Happening → World → ℕ
+beat = tickBy calling
+
+abbrev pub beats : List Happening → World → ℕ
+beats = ticksBy calling
 
 -- what a party does itself
 abbrev pub Does : Side → Happening → Type 0
