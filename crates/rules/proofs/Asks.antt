@@ -24,10 +24,11 @@ use Rattle.rules.specs.Sides.{other, rings}
 use Rattle.rules.specs.Take.{stanceOf}
 use Rattle.rules.specs.Calls.{isSleeping, sound, ready, reply, at, named, begins, rouses, pushSpec, popSpec, spuriousSpec, timeoutSpec}
 use Rattle.rules.specs.Bench.{settled, played, playedLeaves}
-use Rattle.rules.specs.Run.{Note, World, Happening, attaches, plays, partyIn, takes, happens, run, begin}
+use Rattle.rules.specs.Run.{Note, World, Happening, attaches, plays, partyIn, takes, happens, run, begin, rungOf}
 use Rattle.rules.specs.Premises.{Typed, AllTyped, Fair, AllFair, FairTurn}
 use Rattle.rules.specs.Stretch.{beat, beats, Wills, Willing, inCall, notesOf, calling, countsBy, Big}
 use Rattle.rules.specs.Claims.{Fresh, reached, Bounded}
+use Rattle.rules.specs.Phase.{phase}
 use Rattle.rules.proofs.Leads.{stopAt}
 use Rattle.rules.proofs.Taken.{turnWorld}
 use Rattle.rules.proofs.RealCalls.{Changed, seat-one, seat-two, seated, begins-one, rouses-one, push-changes, pop-changes, spurious-changes, timeout-changes}
@@ -36,7 +37,7 @@ use Rattle.rules.proofs.Costs.{cost, Calls, cost-le, cost-none}
 use Rattle.rules.proofs.Fairly.{Ready, ready-happens, still-duty, dozes}
 use Rattle.rules.proofs.Causes.{room-is, ready-reached}
 use Rattle.rules.proofs.Bound.{has-cause, Going, going-turned}
-use Rattle.rules.proofs.Real.{phase, roomIn, rungOf, Real}
+use Rattle.rules.proofs.Real.{roomIn, Real}
 
 -- where a call of a willing party may leave it
 pub data Asked (s : Step) : Step → Type 0 where

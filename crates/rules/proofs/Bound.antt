@@ -24,8 +24,9 @@ use Rattle.rules.specs.Take.{stanceOf, stepAfter, moveAt, moveOf}
 use Rattle.rules.specs.Next.{nextAt, nextSpec}
 use Rattle.rules.specs.Access.{valueOf, bufferOf}
 use Rattle.rules.specs.Turn.{errorOf}
-use Rattle.rules.specs.Run.{Note, Trace, World, partyIn, takes, traced}
+use Rattle.rules.specs.Run.{Note, Trace, World, partyIn, takes, traced, rungOf}
 use Rattle.rules.specs.Stretch.{moves, calling, countsBy, Big, notesOf}
+use Rattle.rules.specs.Phase.{waits, phase}
 use Rattle.rules.proofs.Leads.{stopAt, Leads}
 use Rattle.rules.proofs.Does.{Does, does, nothing, looks, flags, reads, writes, takes as read, stores, raises, closes, shuts, waits as wait, wakes}
 use Rattle.rules.proofs.Taken.{turnWorld, turn-refused}
@@ -37,7 +38,7 @@ use Rattle.rules.proofs.Effects.{room-own-is, room-other-is}
 use Rattle.rules.proofs.Listening.{ReadyAt, unrung, duty-kept, mover-is, waiter-is, trace-is}
 use Rattle.rules.proofs.Fairly.{Ready, dozes}
 use Rattle.rules.proofs.Fits.{no-spill}
-use Rattle.rules.proofs.Real.{waits, phase, roomIn, rungOf, Since, HasRoom, Real}
+use Rattle.rules.proofs.Real.{roomIn, Since, HasRoom, Real}
 
 -- the two steps that no turn leads on from, and the others
 pub data Kind : Step → Type 0 where

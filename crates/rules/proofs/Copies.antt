@@ -26,8 +26,9 @@ use Rattle.rules.specs.Steps.{fitMove}
 use Rattle.rules.specs.Take.{stepAfter}
 use Rattle.rules.specs.Access.{slotOf, valueOf, leavesOf, bufferOf}
 use Rattle.rules.specs.Run.{Note, Trace, buffered}
+use Rattle.rules.specs.Phase.{phase}
 use Rattle.rules.proofs.HeadWords.{head-length, head-tag}
-use Rattle.rules.proofs.Real.{phase, sizes, nth, HoldsAt, InHand, Fixed}
+use Rattle.rules.proofs.Real.{sizes, nth, HoldsAt, InHand, Fixed}
 
 -- a fit that is good
 pub fit-good : (n most named : ℕ) → fitOf n most named ≡ Good → (n ≤ most) × (n ≤ named)

@@ -29,13 +29,14 @@ use Rattle.rules.specs.Turn.{errorOf, runSpec}
 use Rattle.rules.specs.Bench.{settled, played, playedLeaves}
 use Rattle.rules.specs.Run.{Note, Trace, World, plays, partyIn, carried, traced, happens}
 use Rattle.rules.specs.Claims.{turnOf, Delivering, publishes, checks, wakes, Carries, Fresh, reached, DoneCarries, GetsAll}
+use Rattle.rules.specs.Phase.{phase}
 use Rattle.rules.proofs.Left.{turn-is}
 use Rattle.rules.proofs.Taken.{turnWorld}
 use Rattle.rules.proofs.RealTurn.{turn-is-after}
 use Rattle.rules.proofs.RealRun.{power-fits, slot-fits, real-reached, in-order}
 use Rattle.rules.proofs.Listening.{trace-is}
 use Rattle.rules.proofs.Asks.{bounded}
-use Rattle.rules.proofs.Real.{phase, InHand}
+use Rattle.rules.proofs.Real.{InHand}
 
 -- such a Done names what the step carries
 module _ (x y : ℕ) where

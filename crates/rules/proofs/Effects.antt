@@ -1,8 +1,8 @@
 -- What a turn of one side does to the numbers that the two rely on, by the mover's step.
-use mathlib.Core.Path.{_≡_, refl, sym, ap, _∙_}
-use mathlib.Core.Bool.{Bool, true, false, not, _&&_, _||_}
+use mathlib.Core.Path.{_≡_, refl, ap}
+use mathlib.Core.Bool.{Bool, true, false, not, _&&_}
 use mathlib.Core.List.{List, [], _∷_, _++_}
-use Prim.Native.Nat.{ℕ, zero, suc, _+_, _-_, _<_, _≤_}
+use Prim.Native.Nat.{ℕ, zero, suc, _+_, _-_}
 use native.Mathlib.Omega.{arith}
 use lib.Dec.{ltb}
 use lib.ListN.{length, take}
@@ -13,21 +13,20 @@ use Rattle.types.specs.declared.Bell.the-variants.{NotEmpty, NotFull}
 use Rattle.types.specs.declared.Party.{Party}
 use Rattle.types.specs.declared.Step.{Step}
 use Rattle.types.specs.declared.Step.the-variants.{Rest, Look, Copy, Publish, Check, Raise, Wake, Gate, Epoch, Again, GateAgain, Wait, Asleep, CloseSet, CloseRaise, CloseWake, ShutSet, ShutRaiseNe, ShutWakeNe, ShutRaiseNf, ShutWakeNf}
-use Rattle.layout.specs.Flags.{worth, bitOn, closeMark}
 use Rattle.rules.specs.Sides.{other}
 use Rattle.rules.specs.Take.{stanceOf}
 use Rattle.rules.specs.Next.{nextAt}
 use Rattle.rules.specs.Calls.{isSleeping, at}
 use Rattle.rules.specs.Turn.{wokeWith, wokeOf}
 use Rattle.rules.specs.Bench.{hears, wakened}
-use Rattle.rules.specs.Run.{Trace, carried, traced}
+use Rattle.rules.specs.Run.{Trace, carried, traced, rungOf}
+use Rattle.rules.specs.Phase.{phase}
 use Rattle.rules.proofs.After.{flagsBy}
-use Rattle.rules.proofs.Leads.{stopAt}
 use Rattle.rules.proofs.Kept.{length-more}
-use Rattle.rules.proofs.Heard.{ifSender, duty, risen, rungBy, roomBy, wakesAt, setsNone}
+use Rattle.rules.proofs.Heard.{risen, rungBy, roomBy, wakesAt, setsNone}
 use Rattle.rules.proofs.Own.{waitsOn}
 use Rattle.rules.proofs.Costs.{less, ownRoom}
-use Rattle.rules.proofs.Real.{Phase, phase, HasRoom, countOf, rungOf, roomIn, Queue}
+use Rattle.rules.proofs.Real.{HasRoom, roomIn, Queue}
 
 module _ (p : Party) (payload buffer : List ℕ) (t : Trace) where
   abbrev told : Step → Side → Trace

@@ -30,7 +30,7 @@ use Rattle.rules.specs.Take.{stanceOf}
 use Rattle.rules.specs.Next.{nextAt}
 use Rattle.rules.specs.Calls.{pushSpec, popSpec, closeSpec, shutSpec, spuriousSpec, timeoutSpec}
 use Rattle.rules.specs.Bench.{settled, played, playedLeaves}
-use Rattle.rules.specs.Run.{World, Happening, attaches, plays, partyIn, takes, happens, run, begin}
+use Rattle.rules.specs.Run.{World, Happening, attaches, plays, partyIn, takes, happens, run, begin, rungOf}
 use Rattle.rules.specs.Premises.{Typed, AllTyped, Fair, AllFair, FairTurn}
 use Rattle.rules.specs.Stretch.{calling, countsBy, beat, beats, Does, AllOwn}
 use Rattle.rules.specs.Claims.{Fresh, reached, Ends}
@@ -48,7 +48,7 @@ use Rattle.rules.proofs.Fairly.{Ready, ready-happens, still-duty, dozes
 use Rattle.rules.proofs.Causes.{ready-reached}
 use Rattle.rules.proofs.Bound.{moves-call, Kind, rests, dreams, acts, kind, moves-off, wakeful}
 use Rattle.rules.proofs.Asks.{own-timely, run-parts, typed-parts, fair-parts}
-use Rattle.rules.proofs.Real.{roomIn, rungOf, Real}
+use Rattle.rules.proofs.Real.{roomIn, Real}
 
 -- a flag that is up stays up
 mark-up : (n : Mark) (f : ℕ) → f < reservedFrom → (m : Mark) → bitOn (worth m) f ≡ true → bitOn (worth m) (setBit (worth n) f) ≡ true

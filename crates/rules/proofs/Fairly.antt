@@ -30,8 +30,9 @@ use Rattle.rules.specs.Calls.{pushSpec, popSpec, closeSpec, shutSpec, sp
 use Rattle.rules.specs.Next.{nextSpec}
 use Rattle.rules.specs.Turn.{errorOf, wokeOf}
 use Rattle.rules.specs.Bench.{seat, hears, settled, played, playedLeaves}
-use Rattle.rules.specs.Run.{World, Happening, attaches, plays, partyIn, takes, happens, run, begin}
+use Rattle.rules.specs.Run.{World, Happening, attaches, plays, partyIn, takes, happens, run, begin, rungOf}
 use Rattle.rules.specs.Premises.{Typed, AllTyped, Fair, AllFair, FairTurn}
+use Rattle.rules.specs.Phase.{phase}
 use Rattle.rules.proofs.Leads.{stopAt}
 use Rattle.rules.proofs.Taken.{turnWorld, turn-refused}
 use Rattle.rules.proofs.RealTurn.{access-is, turn-is-after}
@@ -42,7 +43,7 @@ use Rattle.rules.proofs.RealRun.{real-happens}
 use Rattle.rules.proofs.Heard.{Cause, Duty, none, duty, Good, wakesAt}
 use Rattle.rules.proofs.Own.{Tries}
 use Rattle.rules.proofs.Listening.{ReadyAt, ready-own, ready-other, never}
-use Rattle.rules.proofs.Real.{phase, rungOf, roomIn, Real}
+use Rattle.rules.proofs.Real.{roomIn, Real}
 
 -- a step that relies on nothing owes nothing
 idle-good : (s : Step) (n k : ℕ) (z : Bool) (d : Duty) → Idle s → Good (phase s) n k z d

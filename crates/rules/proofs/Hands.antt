@@ -21,11 +21,12 @@ use Rattle.rules.specs.Sides.{other}
 use Rattle.rules.specs.Next.{nextAt}
 use Rattle.rules.specs.Access.{leavesOf}
 use Rattle.rules.specs.Run.{Note, Trace, published, carried, traced}
+use Rattle.rules.specs.Phase.{Phase, resting, looking, copying, publishing, telling, asking, armed, poised, waits, sleeps as asleep, leaving, phase}
 use Rattle.rules.proofs.Does.{Does, nothing, looks, flags, reads as epoch, writes, takes, stores as store, raises as ring, closes as close, shuts as shut, waits as wait, wakes as wake}
 use Rattle.rules.proofs.Leads.{Leads, idles, finds, blocks, gives-up, copies, spills, tells, stores, owes, passes, raises, wakes, enters, stops, reads, finds-again, stays, enters-again, stops-again, sleeps, returns, ends, dreams, closes, closes-alone, close-raises, close-wakes, shuts, shut-raises, shut-wakes, shut-raises-again, shut-wakes-again}
 use Rattle.rules.proofs.Kept.{length-more}
 use Rattle.rules.proofs.Ring.{holds-kept, written-elsewhere, queue-still, queue-quiet, queue-sent, queue-got}
-use Rattle.rules.proofs.Real.{Phase, resting, looking, copying, publishing, telling, asking, armed, poised, waits, sleeps as asleep, leaving, phase, countOf, HasRoom, sizes, roomIn, nth, blank, HoldsAt, InHand, Fixed, Queue}
+use Rattle.rules.proofs.Real.{countOf, HasRoom, sizes, roomIn, nth, blank, HoldsAt, InHand, Fixed, Queue}
 
 -- more room is room
 has-more : (ph : Phase) (k j : ℕ) → k ≤ j → HasRoom ph k → HasRoom ph j

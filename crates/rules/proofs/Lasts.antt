@@ -17,14 +17,14 @@ use Rattle.types.specs.declared.Step.the-variants.{Rest, Look, Copy, Publish, C
 use Rattle.rules.specs.Sides.{other}
 use Rattle.rules.specs.Take.{stanceOf, closedAfter}
 use Rattle.rules.specs.Next.{nextAt}
-use Rattle.rules.specs.Run.{Note, Trace, World, partyIn, traced}
+use Rattle.rules.specs.Run.{Note, Trace, World, partyIn, traced, rungOf}
 use Rattle.rules.specs.Premises.{FairTurn}
 use Rattle.rules.specs.Stretch.{Big, notesOf, beforeCopy, holdsEpoch, Underway}
+use Rattle.rules.specs.Phase.{phase}
 use Rattle.rules.proofs.Leads.{Leads, idles, finds, blocks, gives-up, copies, spills, tells, stores, owes, passes, raises, wakes, enters, stops, reads, finds-again, stays, enters-again, stops-again, returns, ends, dreams, closes, closes-alone, close-raises, close-wakes, shuts, shut-raises, shut-wakes, shut-raises-again, shut-wakes-again, sleeps as falls-asleep}
 use Rattle.rules.proofs.Does.{Does, nothing, looks, flags, writes, reads as epoch, takes as take-slot, stores as store, raises as ring, closes as close, shuts as shut, waits as wait, wakes as wake}
 use Rattle.rules.proofs.Own.{waitsOn}
 use Rattle.rules.proofs.Costs.{Calls}
-use Rattle.rules.proofs.Real.{phase, rungOf}
 
 -- a turn to a step before the copy comes from one
 pub before-on : (k x : ℕ) (z m r : Bool) (b : ℕ) (s next : Step) → Leads k x z m r b s next → beforeCopy next ≡ true → beforeCopy s ≡ true

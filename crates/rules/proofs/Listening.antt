@@ -1,12 +1,11 @@
 -- What each side relies on holds along every run that is fair to it.
 use mathlib.Core.Path.{_≡_, refl, sym, ap, _∙_, subst}
-use mathlib.Core.Bool.{Bool, true, false, not, _&&_, _||_}
-use mathlib.Core.List.{List, [], _∷_}
-use mathlib.Core.Logic.{_⊎_, inl, inr}
-use Prim.Native.Nat.{ℕ, zero, suc, _+_, _-_, _%_, _^_, _<_, _≤_}
+use mathlib.Core.Bool.{Bool, true, false, not, _&&_}
+use mathlib.Core.List.{List}
+use Prim.Native.Nat.{ℕ, _+_, _-_, _%_, _^_, _<_, _≤_}
 use native.Mathlib.Omega.{arith}
 use native.Mathlib.Nat.{add-zero}
-use borrow.Author.Tests.{le-ltb, ltb-false}
+use borrow.Author.Tests.{le-ltb}
 use lib.Dec.{ltb}
 use lib.ListN.{length}
 use Rattle.words.specs.Le.{leAt}
@@ -25,21 +24,22 @@ use Rattle.rules.specs.Sides.{other, rings, sleepBell}
 use Rattle.rules.specs.Next.{nextAt, nextSpec}
 use Rattle.rules.specs.Access.{bufferOf}
 use Rattle.rules.specs.Turn.{errorOf, wokeOf}
-use Rattle.rules.specs.Bench.{partyOf, seat, wakened}
-use Rattle.rules.specs.Run.{Trace, World, partyIn, takes, traced}
+use Rattle.rules.specs.Bench.{wakened}
+use Rattle.rules.specs.Run.{Trace, World, partyIn, takes, traced, rungOf}
 use Rattle.rules.specs.Stretch.{holdsEpoch}
+use Rattle.rules.specs.Phase.{phase, sleeps}
 use Rattle.rules.proofs.After.{flagsBy}
 use Rattle.rules.proofs.Kept.{flags-are}
 use Rattle.rules.proofs.Seats.{moved, roused, roused-elim}
 use Rattle.rules.proofs.Leads.{stopAt}
-use Rattle.rules.proofs.Taken.{turnWorld, seat-own, seat-other}
-use Rattle.rules.proofs.RealTurn.{own-is, access-is, next-step, leads-here, after-turn, turn-is-after}
-use Rattle.rules.proofs.Heard.{Cause, Duty, none, duty, Owed, Good, risen, rungBy, roomBy, wakesAt, setsNone, theirs}
+use Rattle.rules.proofs.Taken.{seat-own, seat-other}
+use Rattle.rules.proofs.RealTurn.{access-is, next-step, leads-here, after-turn}
+use Rattle.rules.proofs.Heard.{duty, Good, risen, rungBy, roomBy, wakesAt, theirs}
 use Rattle.rules.proofs.Own.{waitsOn, own, Tries, tries}
 use Rattle.rules.proofs.Rings.{owing, pays, holds-on}
-use Rattle.rules.proofs.Costs.{less, ownRoom}
+use Rattle.rules.proofs.Costs.{ownRoom}
 use Rattle.rules.proofs.Effects.{rung-other, rung-own, room-own-is, room-other-is, flags-still, waits-still, woken-phase}
-use Rattle.rules.proofs.Real.{Phase, phase, sleeps, rungOf, roomIn, Since, Real}
+use Rattle.rules.proofs.Real.{roomIn, Since, Real}
 
 -- heard: the other rings. The waiter, and then the other
 module _ (P S v : ℕ) (on : Bool) where

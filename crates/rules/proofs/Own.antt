@@ -4,34 +4,27 @@ use mathlib.Core.Bool.{Bool, true, false}
 use Prim.Native.Nat.{ℕ, _-_}
 use native.Mathlib.Omega.{arith}
 use Rattle.types.specs.declared.Step.{Step}
-use Rattle.types.specs.declared.Step.the-variants.{Rest, Look, Copy, Publish, Check, Raise, Wake, Gate, Epoch, Again, GateAgain, Wait, Asleep, CloseSet, CloseRaise, CloseWake, ShutSet, ShutRaiseNe, ShutWakeNe, ShutRaiseNf, ShutWakeNf}
+use Rattle.types.specs.declared.Step.the-variants.{Wait}
+use Rattle.rules.specs.Phase.{Phase, resting, looking, copying, publishing, telling, asking, armed, poised, waits, sleeps, leaving, phase}
 use Rattle.rules.proofs.Leads.{Leads, idles, finds, blocks, gives-up, copies, spills, tells, stores, owes, passes, raises, wakes, enters, stops, reads, finds-again, stays, enters-again, stops-again, returns, ends, dreams, closes, closes-alone, close-raises, close-wakes, shuts, shut-raises, shut-wakes, shut-raises-again, shut-wakes-again, sleeps as falls-asleep}
 use Rattle.rules.proofs.Heard.{Duty, none, checking, raising, waking, Due, Good}
-use Rattle.rules.proofs.Real.{Phase, resting, looking, copying, publishing, telling, asking, armed, poised, waits, sleeps, leaving, phase}
 
 -- a step of a wait, whose turn changes nothing that the waiter relies on
+abbrev pub waitsOnAt : Phase → Bool
+waitsOnAt resting = false
+waitsOnAt looking = false
+waitsOnAt copying = false
+waitsOnAt (publishing l t) = false
+waitsOnAt (telling l t) = false
+waitsOnAt asking = false
+waitsOnAt (armed e) = true
+waitsOnAt (poised e) = true
+waitsOnAt (waits e) = true
+waitsOnAt sleeps = true
+waitsOnAt leaving = false
+
 abbrev pub waitsOn : Step → Bool
-waitsOn Rest = false
-waitsOn Look = false
-waitsOn Copy = false
-waitsOn (Publish l g) = false
-waitsOn (Check l g) = false
-waitsOn (Raise l g) = false
-waitsOn (Wake l g) = false
-waitsOn Gate = false
-waitsOn Epoch = false
-waitsOn (Again e) = true
-waitsOn (GateAgain e) = true
-waitsOn (Wait e) = true
-waitsOn Asleep = true
-waitsOn CloseSet = false
-waitsOn CloseRaise = false
-waitsOn CloseWake = false
-waitsOn (ShutSet c) = false
-waitsOn (ShutRaiseNe c) = false
-waitsOn (ShutWakeNe c) = false
-waitsOn (ShutRaiseNf c f) = false
-waitsOn (ShutWakeNf c f) = false
+waitsOn s = waitsOnAt (phase s)
 
 later : (d : Duty) (k : ℕ) → Due false d k → Due true d k
 later none k x = x

@@ -10,55 +10,20 @@ use Rattle.types.specs.declared.Side.{Side}
 use Rattle.types.specs.declared.Side.the-variants.{Sender, Recorder}
 use Rattle.types.specs.declared.Own.{Own}
 use Rattle.types.specs.declared.Party.{Party}
-use Rattle.types.specs.declared.Step.{Step}
-use Rattle.types.specs.declared.Step.the-variants.{Rest, Look, Copy, Publish, Check, Raise, Wake, Gate, Epoch, Again, GateAgain, Wait, Asleep, CloseSet, CloseRaise, CloseWake, ShutSet, ShutRaiseNe, ShutWakeNe, ShutRaiseNf, ShutWakeNf}
+use Rattle.types.specs.declared.Step.the-variants.{Rest}
 use Rattle.layout.specs.Limits.{capacity, payloadCapacity, totalBytes}
 use Rattle.layout.specs.Flags.{worth, notFullOn, reservedFrom, bitOn, attachMark, closeMark}
 use Rattle.layout.specs.Header.{powerAt, slotSizeAt, flagsAt, counterAt, bellAt}
 use Rattle.layout.specs.Slots.{headOf, payloadIn}
 use Rattle.rules.specs.Sides.{sleepBell}
 use Rattle.rules.specs.Access.{slotOf}
-use Rattle.rules.specs.Run.{Note, Trace, World, partyIn}
+use Rattle.rules.specs.Phase.{Phase, resting, looking, copying, publishing, telling, asking, armed, poised, waits, sleeps, leaving, phase}
+use Rattle.rules.specs.Run.{Note, Trace, World, rungOf, partyIn}
 
--- a step, as far as the invariants care: telling is what follows a store, armed to waits is what follows an epoch
-pub data Phase : Type 0 where
-  resting looking copying : Phase
-  publishing telling : (length tag : ℕ) → Phase
-  asking : Phase
-  armed poised waits : (epoch : ℕ) → Phase
-  sleeps leaving : Phase
-
-abbrev pub phase : Step → Phase
-phase Rest = resting
-phase Look = looking
-phase Copy = copying
-phase (Publish l t) = publishing l t
-phase (Check l t) = telling l t
-phase (Raise l t) = telling l t
-phase (Wake l t) = telling l t
-phase Gate = asking
-phase Epoch = asking
-phase (Again e) = armed e
-phase (GateAgain e) = poised e
-phase (Wait e) = waits e
-phase Asleep = sleeps
-phase CloseSet = leaving
-phase CloseRaise = leaving
-phase CloseWake = leaving
-phase (ShutSet c) = leaving
-phase (ShutRaiseNe c) = leaving
-phase (ShutWakeNe c) = leaving
-phase (ShutRaiseNf c e) = leaving
-phase (ShutWakeNf c e) = leaving
-
--- how many notes a side has published, and how often its bell was raised since its epoch
+-- how many notes a side has published
 abbrev pub countOf : Side → Trace → ℕ
 countOf Sender t = length (t .sent)
 countOf Recorder t = length (t .got)
-
-abbrev pub rungOf : Side → Trace → ℕ
-rungOf Sender t = t .rungSender
-rungOf Recorder t = t .rungRecorder
 
 -- one at a copy or a store has room
 abbrev pub HasRoom : Phase → ℕ → Type 0

@@ -1,35 +1,28 @@
 -- An attach keeps the invariant: a refused one changes nothing, an accepted one seats a party at rest in an empty seat.
-use mathlib.Core.Path.{_≡_, refl, sym, ap, _∙_, subst}
-use mathlib.Core.Bool.{Bool, true, false, not, _&&_}
-use mathlib.Core.List.{List, [], _∷_, _++_}
-use Prim.Native.Nat.{ℕ, zero, suc, _^_, _<_}
+use mathlib.Core.Path.{_≡_, refl, sym, _∙_, subst}
+use mathlib.Core.Bool.{Bool, true, false, not}
+use mathlib.Core.List.{List, [], _∷_}
+use Prim.Native.Nat.{ℕ, zero, suc}
 use native.Mathlib.Omega.{arith}
-use borrow.Author.Tests.{eqb-true}
 use lib.Dec.{T, eqb}
 use lib.ListN.{length}
 use Rattle.words.specs.Le.{leAt, putLe}
-use Rattle.words.specs.Wrap.{plus}
-use Rattle.types.specs.Pick.{pick}
 use Rattle.types.specs.Answers.{number, Check, check, firstOf}
 use Rattle.types.specs.declared.Side.{Side}
 use Rattle.types.specs.declared.Side.the-variants.{Sender, Recorder}
-use Rattle.types.specs.declared.Answer.{Answer}
-use Rattle.types.specs.declared.Answer.the-variants.{AlreadyAttached}
-use Rattle.types.specs.declared.Mark.{Mark}
-use Rattle.types.specs.declared.Own.{Own}
 use Rattle.types.specs.declared.Party.{Party}
-use Rattle.types.specs.declared.Bench.{Bench}
 use Rattle.types.specs.declared.Access.{Access}
 use Rattle.types.specs.declared.Access.the-variants.{SetFlag}
 use Rattle.layout.specs.Limits.{powerOk, slotOk}
-use Rattle.layout.specs.Flags.{worth, notFullOn, reservedFrom, bitOn, setBit, attachMark, closeMark}
-use Rattle.layout.specs.Header.{powerAt, slotSizeAt, flagsAt, counterAt, bellAt}
-use Rattle.layout.specs.Attach.{flagChecks, ringChecks, attachChecks, attachAnswer, attachReply, attachLeaves, attached, unattached, fresh}
+use Rattle.layout.specs.Flags.{worth, bitOn, setBit, attachMark, closeMark}
+use Rattle.layout.specs.Header.{flagsAt, counterAt, bellAt}
+use Rattle.layout.specs.Attach.{flagChecks, ringChecks, attachChecks, attachAnswer, attachReply, attachLeaves, attached}
 use Rattle.layout.proofs.FlagLaws.{mark-set}
 use Rattle.rules.specs.Sides.{other, sleepBell}
 use Rattle.rules.specs.Access.{leavesOf}
 use Rattle.rules.specs.Bench.{partyOf, seat}
-use Rattle.rules.specs.Run.{Note, Trace, World, partyIn, attachSeats}
+use Rattle.rules.specs.Run.{Note, World, partyIn, attachSeats}
+use Rattle.rules.specs.Phase.{Phase, resting, looking, copying, publishing, telling, asking, armed, poised, waits, sleeps, leaving, phase}
 use Rattle.rules.proofs.After.{counter-after, bell-after}
 use Rattle.rules.proofs.Kept.{header-in, flags-are, fixed-kept}
 use Rattle.rules.proofs.Ring.{holds-kept}
@@ -37,7 +30,7 @@ use Rattle.rules.proofs.Refusals.{refuses, all-refuse, first-refuses, o
 use Rattle.rules.proofs.Hands.{in-hand-none}
 use Rattle.rules.proofs.RealTurn.{both-sides}
 use Rattle.rules.proofs.RealCalls.{seat-one, seat-two}
-use Rattle.rules.proofs.Real.{Phase, resting, looking, copying, publishing, telling, asking, armed, poised, waits, sleeps, leaving, phase, countOf, InHand, HoldsAt, sizes, nth, Seated, Queue, Side-good, Real}
+use Rattle.rules.proofs.Real.{InHand, HoldsAt, nth, Queue, Side-good, Real}
 
 -- the k-th test of a list of checks; where they end in Done, it holds
 abbrev testAt : List Check → ℕ → Bool

@@ -1,7 +1,6 @@
 -- Begins, and what comes to a sleeper, keep the invariant: they change no byte, and lead to a step that relies on nothing.
 use mathlib.Core.Path.{_≡_, refl, sym, ap, _∙_, subst}
 use mathlib.Core.Bool.{Bool, true, false, not, _&&_}
-use mathlib.Core.List.{List}
 use mathlib.Core.Logic.{_⊎_, inl, inr}
 use Prim.Native.Nat.{ℕ, _^_, _<_}
 use native.Mathlib.Omega.{arith}
@@ -16,17 +15,18 @@ use Rattle.types.specs.declared.Bench.{Bench}
 use Rattle.types.specs.declared.Step.{Step}
 use Rattle.types.specs.declared.Step.the-variants.{Rest, Look, Asleep, CloseSet, ShutSet}
 use Rattle.types.specs.declared.Answer.the-variants.{GoesOn, Timeout}
-use Rattle.layout.specs.Limits.{powerOk, slotOk, payloadCapacity}
+use Rattle.layout.specs.Limits.{payloadCapacity}
 use Rattle.rules.specs.Sides.{other}
 use Rattle.rules.specs.Take.{stanceOf}
 use Rattle.rules.specs.Calls.{isSleeping, sound, ready, reply, at, named, begins, rouses, pushSpec, popSpec, closeSpec, shutSpec, spuriousSpec, timeoutSpec}
 use Rattle.rules.specs.Bench.{partyOf, seat}
 use Rattle.rules.specs.Run.{World, partyIn}
+use Rattle.rules.specs.Phase.{phase}
 use Rattle.rules.proofs.Refusals.{ready-rests}
 use Rattle.rules.proofs.Seats.{sleeping-step}
 use Rattle.rules.proofs.RealTurn.{both-sides}
 use Rattle.rules.proofs.Hands.{free, in-hand-none}
-use Rattle.rules.proofs.Real.{Phase, resting, looking, leaving, phase, HasRoom, Since, Seated, Side-good, Real}
+use Rattle.rules.proofs.Real.{HasRoom, Since, Side-good, Real}
 
 -- a step that relies on nothing
 pub data Idle : Step → Type 0 where

@@ -33,7 +33,8 @@ use Rattle.rules.specs.Access.{valueOf, leavesOf, bufferOf}
 use Rattle.rules.specs.Calls.{isSleeping, at, lengthOk}
 use Rattle.rules.specs.Turn.{errorOf, lentTo, lentOk, wokeOf}
 use Rattle.rules.specs.Bench.{seat, hears, wakened}
-use Rattle.rules.specs.Run.{Note, Trace, World, partyIn, takes, traced}
+use Rattle.rules.specs.Run.{Note, Trace, World, partyIn, takes, traced, rungOf}
+use Rattle.rules.specs.Phase.{copying, looking, phase}
 use Rattle.rules.proofs.Rooms.{asRoom, sender-sees, recorder-sees, sender-checks, recorder-checks}
 use Rattle.rules.proofs.Leads.{stopAt, Leads, Tells, leads}
 use Rattle.rules.proofs.Does.{Does, does}
@@ -43,7 +44,7 @@ use Rattle.rules.proofs.Seats.{moved, Roused, roused, roused-elim, seat
 use Rattle.rules.proofs.Hands.{in-hand-none, queue-kept, room-own, room-other, hand-own, hand-other}
 use Rattle.rules.proofs.Copies.{copy-written, copy-read}
 use Rattle.rules.proofs.Taken.{turnWorld, turn-refused, seat-own, seat-other, turn-taken, attached-here, length-ok, lent-ok}
-use Rattle.rules.proofs.Real.{copying, looking, phase, countOf, rungOf, HasRoom, Since, sizes, roomIn, nth, InHand, Queue, Side-good, Real}
+use Rattle.rules.proofs.Real.{countOf, HasRoom, Since, sizes, roomIn, nth, InHand, Queue, Side-good, Real}
 
 -- what holds of one side and of the other holds of both
 pub both-sides : (side : Side) (F : Side → Type 0) → F side → F (other side) → (τ : Side) → F τ

@@ -26,12 +26,13 @@ use Rattle.rules.specs.Next.{nextAt}
 use Rattle.rules.specs.Calls.{isSleeping, at}
 use Rattle.rules.specs.Access.{leavesOf}
 use Rattle.rules.specs.Bench.{hears, wakened}
-use Rattle.rules.specs.Run.{Trace, traced}
+use Rattle.rules.specs.Run.{Trace, traced, rungOf}
+use Rattle.rules.specs.Phase.{Phase, resting, looking, copying, publishing, telling, asking, armed, poised, waits, sleeps as asleep, leaving, phase}
 use Rattle.rules.proofs.After.{bellBy, bell-after}
 use Rattle.rules.proofs.Does.{Does, nothing, looks, flags, reads as epoch, writes, takes, stores as store, raises as ring, closes as close, shuts as shut, waits as wait, wakes as wake}
 use Rattle.rules.proofs.Leads.{Leads, idles, finds, blocks, gives-up, copies, spills, tells, stores, owes, passes, raises, wakes, enters, stops, reads, finds-again, stays, enters-again, stops-again, sleeps, returns, ends, dreams, closes, closes-alone, close-raises, close-wakes, shuts, shut-raises, shut-wakes, shut-raises-again, shut-wakes-again}
 use Rattle.rules.proofs.Kept.{header-in, flags-are, attach-bit, close-bit-own, close-bit-other, counts-own, counts-other}
-use Rattle.rules.proofs.Real.{Phase, resting, looking, copying, publishing, telling, asking, armed, poised, waits, sleeps as asleep, leaving, phase, rungOf, Since, Seated, Fixed}
+use Rattle.rules.proofs.Real.{Since, Seated, Fixed}
 
 -- a party after a turn at s that leads to the next step
 abbrev pub moved : Party → Step → Step → Party

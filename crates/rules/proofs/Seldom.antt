@@ -25,10 +25,10 @@ use Rattle.rules.specs.Sides.{other, sameSide}
 use Rattle.rules.specs.Take.{stanceOf}
 use Rattle.rules.specs.Calls.{at, named, reply, ready, sound, isSleeping, pushSpec, popSpec, closeSpec, shutSpec, spuriousSpec, timeoutSpec}
 use Rattle.rules.specs.Bench.{seat, settled, played, playedLeaves}
-use Rattle.rules.specs.Run.{World, Happening, attaches, plays, partyIn, takes, happens, run, begin}
-use Rattle.rules.specs.Premises.{Typed, AllTyped, rung, Timely, FairTurnBy, FairBy, AllFair, AllLand, parting, partings}
+use Rattle.rules.specs.Run.{World, Happening, attaches, plays, partyIn, takes, happens, run, begin, rungOf}
+use Rattle.rules.specs.Premises.{Typed, AllTyped, Timely, FairTurnBy, FairBy, AllFair, AllLand, parting, partings}
 use Rattle.rules.specs.Stretch.{holdsEpoch}
-use Rattle.rules.specs.Claims.{Fresh, reached, SeldomRung, WakesAlone}
+use Rattle.rules.specs.Claims.{Fresh, SeldomRung, WakesAlone}
 use Rattle.rules.proofs.Refusals.{ready-rests}
 use Rattle.rules.proofs.Seats.{sleeping-step}
 use Rattle.rules.proofs.Taken.{turnWorld, turn-refused}
@@ -38,7 +38,7 @@ use Rattle.rules.proofs.RealCalls.{Idle, rests, looks, closes, shuts, C
 use Rattle.rules.proofs.RealRun.{power-fits, slot-fits, real-start, real-happens}
 use Rattle.rules.proofs.Rings.{owing}
 use Rattle.rules.proofs.Listening.{RungAt, rung-mine, rung-theirs}
-use Rattle.rules.proofs.Real.{rungOf, roomIn, Real}
+use Rattle.rules.proofs.Real.{roomIn, Real}
 
 idle-holds : (s : Step) → Idle s → holdsEpoch s ≡ true → ⊥
 idle-holds s rests h = let z : _≡_ {A = ℕ} 0 1 = cc in omega arith
@@ -242,14 +242,9 @@ module _ (r : List ℕ) (P S : ℕ) (on : Bool) (v : ℕ) (fresh : Fresh r P S o
   rung-start Sender h = absurd (let z : _≡_ {A = ℕ} 0 1 = cc in omega arith)
   rung-start Recorder h = absurd (let z : _≡_ {A = ℕ} 0 1 = cc in omega arith)
 
-  rung-is : (side : Side) (w : World) → rung side w ≡ rungOf side (w .trace)
-  rung-is Sender w = refl
-  rung-is Recorder w = refl
-
   pub seldom : (side : Side) → SeldomRung r P S on v side
   seldom side hs y h =
-      rw (rung-is side (reached r P S on v hs))
-      (omega (arith, rung-run P S v on (power-fits r P S on v fresh) (slot-fits r P S on v fresh) side hs (begin region) 0 y (real-start r P S on v fresh) (rung-start side) h))
+      omega (arith, rung-run P S v on (power-fits r P S on v fresh) (slot-fits r P S on v fresh) side hs (begin region) 0 y (real-start r P S on v fresh) (rung-start side) h)
 
   pub wakes-alone : (side : Side) → WakesAlone r P S on v side
   wakes-alone side hs y few l =

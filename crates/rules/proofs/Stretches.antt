@@ -24,10 +24,11 @@ use Rattle.rules.specs.Next.{nextAt}
 use Rattle.rules.specs.Access.{bufferOf}
 use Rattle.rules.specs.Calls.{sound, ready, at, named, pushSpec, popSpec, spuriousSpec}
 use Rattle.rules.specs.Bench.{settled, played, playedLeaves}
-use Rattle.rules.specs.Run.{Note, Trace, World, Happening, plays, partyIn, takes, traced, happens, run, begin}
+use Rattle.rules.specs.Run.{Note, Trace, World, Happening, plays, partyIn, takes, traced, happens, run, begin, rungOf}
 use Rattle.rules.specs.Premises.{Typed, AllTyped, Fair, AllFair}
 use Rattle.rules.specs.Stretch.{moves, tick, ticks, Wills, Willing, beforeCopy, holdsEpoch}
 use Rattle.rules.specs.Claims.{Fresh, reached, Lasts}
+use Rattle.rules.specs.Phase.{phase}
 use Rattle.rules.proofs.Leads.{stopAt, Leads}
 use Rattle.rules.proofs.Does.{does, raises as ring}
 use Rattle.rules.proofs.Seats.{moved}
@@ -41,7 +42,7 @@ use Rattle.rules.proofs.Listening.{mover-is, trace-is}
 use Rattle.rules.proofs.Bound.{Kind, rests, dreams as asleep, acts, kind, notes-kept}
 use Rattle.rules.proofs.Asks.{in-call}
 use Rattle.rules.proofs.Sized.{blankOf, Sized, sized-turn, sized-happens, sized-run, sized-start, nothing-fits, sound-here, takes-here}
-use Rattle.rules.proofs.Real.{phase, rungOf, roomIn, nth, blank, Real}
+use Rattle.rules.proofs.Real.{roomIn, nth, blank, Real}
 use Rattle.rules.proofs.Lasts.{BigFine, EpochFine, before-on, big-turn, both-notes, counts-anew, epoch-on, fair-turn, own-notes, stays-open, under-way}
 
 module _ (P S v : ℕ) (on : Bool) (power-ok : powerOk P ≡ true) (slot-ok : slotOk S ≡ true) where

@@ -11,6 +11,7 @@ pub mod Touch
 pub mod Given
 pub mod Leaves
 pub mod Run
+pub mod Phase
 pub mod Premises
 pub mod Stretch
 pub mod Claims

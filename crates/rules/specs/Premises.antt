@@ -20,7 +20,7 @@ use Rattle.rules.specs.Sides.{sameSide}
 use Rattle.rules.specs.Next.{nextSpec}
 use Rattle.rules.specs.Turn.{errorOf, wokeOf}
 use Rattle.rules.specs.Bench.{hears}
-use Rattle.rules.specs.Run.{World, Happening, attaches, plays, partyIn, takes, happens}
+use Rattle.rules.specs.Run.{World, rungOf, Happening, attaches, plays, partyIn, takes, happens}
 
 -- a tag is a number of 16 bits; nothing else is asked of what happens
 abbrev pub Typed : Happening → Type 0
@@ -40,8 +40,7 @@ AllTyped (h ∷ hs) = Typed h × AllTyped hs
 
 -- The premises, for a side that waits. Its bell is raised fewer than 2^32 times between its look at it and its wait ..
 abbrev pub rung : Side → World → ℕ
-rung Sender w = w .trace .rungSender
-rung Recorder w = w .trace .rungRecorder
+rung side w = rungOf side (w .trace)
 
 abbrev pub Timely : Side → World → Type 0
 Timely side w = (e : ℕ) → partyIn w side .step ≡ Wait e → rung side w < 2 ^ 32

@@ -41,6 +41,11 @@ pub record Trace : Type 0 where
   pub rungSender : ℕ
   pub rungRecorder : ℕ
 
+-- the raises of a side's bell since it read the epoch
+abbrev pub rungOf : Side → Trace → ℕ
+rungOf Sender t = t .rungSender
+rungOf Recorder t = t .rungRecorder
+
 pub record World : Type 0 where
   pub region : List ℕ
   pub bench : Bench

@@ -10,11 +10,12 @@ use Rattle.types.specs.declared.Side.the-variants.{Sender, Recorder}
 use Rattle.types.specs.declared.Fault.{Fault}
 use Rattle.types.specs.declared.Fault.the-variants.{Fine, Error}
 use Rattle.types.specs.declared.Step.{Step}
-use Rattle.types.specs.declared.Step.the-variants.{Rest, Look, Copy, Publish, Check, Raise, Wake, Gate, Epoch, Again, GateAgain, Wait, Asleep, CloseSet, CloseRaise, CloseWake, ShutSet, ShutRaiseNe, ShutWakeNe, ShutRaiseNf, ShutWakeNf}
+use Rattle.types.specs.declared.Step.the-variants.{Copy}
 use Rattle.types.specs.declared.Stance.{Stance}
 use Rattle.types.specs.declared.Stance.the-variants.{Resting, Sleeping, Copying, Publishing, Closing, Moving}
 use Rattle.types.specs.declared.Event.the-variants.{Turn, Failing, Spurious, TimeOut, Push, Pop, Close, Shutdown}
 use Rattle.rules.specs.Sides.{other}
+use Rattle.rules.specs.Phase.{Phase, resting, looking, copying, publishing, telling, asking, armed, poised, waits, sleeps, leaving, phase}
 use Rattle.rules.specs.Take.{stanceOf}
 use Rattle.rules.specs.Premises.{rung}
 use Rattle.rules.specs.Run.{Note, Trace, World, Happening, attaches, plays, partyIn, takes, happens}
@@ -113,28 +114,21 @@ Willing side [] w = Unit
 Willing side (h ∷ hs) w = Wills side h w × Willing side hs (happens h w)
 
 -- a party in a push or a pop, or between calls
+abbrev pub inCallAt : Phase → Bool
+inCallAt resting = true
+inCallAt looking = true
+inCallAt copying = true
+inCallAt (publishing l t) = true
+inCallAt (telling l t) = true
+inCallAt asking = true
+inCallAt (armed e) = true
+inCallAt (poised e) = true
+inCallAt (waits e) = true
+inCallAt sleeps = true
+inCallAt leaving = false
+
 abbrev pub inCall : Step → Bool
-inCall Rest = true
-inCall Look = true
-inCall Copy = true
-inCall (Publish l t) = true
-inCall (Check l t) = true
-inCall (Raise l t) = true
-inCall (Wake l t) = true
-inCall Gate = true
-inCall Epoch = true
-inCall (Again e) = true
-inCall (GateAgain e) = true
-inCall (Wait e) = true
-inCall Asleep = true
-inCall CloseSet = false
-inCall CloseRaise = false
-inCall CloseWake = false
-inCall (ShutSet c) = false
-inCall (ShutRaiseNe c) = false
-inCall (ShutWakeNe c) = false
-inCall (ShutRaiseNf c e) = false
-inCall (ShutWakeNf c e) = false
+inCall s = inCallAt (phase s)
 
 -- the notes that a side has published
 abbrev pub notesOf : Side → Trace → List Note
@@ -142,51 +136,37 @@ notesOf Sender t = t .sent
 notesOf Recorder t = t .got
 
 -- a pop that has yet to copy, and a party that holds an epoch
+abbrev pub beforeCopyAt : Phase → Bool
+beforeCopyAt resting = false
+beforeCopyAt looking = true
+beforeCopyAt copying = true
+beforeCopyAt (publishing l t) = false
+beforeCopyAt (telling l t) = false
+beforeCopyAt asking = true
+beforeCopyAt (armed e) = true
+beforeCopyAt (poised e) = true
+beforeCopyAt (waits e) = true
+beforeCopyAt sleeps = true
+beforeCopyAt leaving = false
+
 abbrev pub beforeCopy : Step → Bool
-beforeCopy Rest = false
-beforeCopy Look = true
-beforeCopy Copy = true
-beforeCopy (Publish l t) = false
-beforeCopy (Check l t) = false
-beforeCopy (Raise l t) = false
-beforeCopy (Wake l t) = false
-beforeCopy Gate = true
-beforeCopy Epoch = true
-beforeCopy (Again e) = true
-beforeCopy (GateAgain e) = true
-beforeCopy (Wait e) = true
-beforeCopy Asleep = true
-beforeCopy CloseSet = false
-beforeCopy CloseRaise = false
-beforeCopy CloseWake = false
-beforeCopy (ShutSet c) = false
-beforeCopy (ShutRaiseNe c) = false
-beforeCopy (ShutWakeNe c) = false
-beforeCopy (ShutRaiseNf c e) = false
-beforeCopy (ShutWakeNf c e) = false
+beforeCopy s = beforeCopyAt (phase s)
+
+abbrev pub holdsEpochAt : Phase → Bool
+holdsEpochAt resting = false
+holdsEpochAt looking = false
+holdsEpochAt copying = false
+holdsEpochAt (publishing l t) = false
+holdsEpochAt (telling l t) = false
+holdsEpochAt asking = false
+holdsEpochAt (armed e) = true
+holdsEpochAt (poised e) = true
+holdsEpochAt (waits e) = true
+holdsEpochAt sleeps = false
+holdsEpochAt leaving = false
 
 abbrev pub holdsEpoch : Step → Bool
-holdsEpoch Rest = false
-holdsEpoch Look = false
-holdsEpoch Copy = false
-holdsEpoch (Publish l t) = false
-holdsEpoch (Check l t) = false
-holdsEpoch (Raise l t) = false
-holdsEpoch (Wake l t) = false
-holdsEpoch Gate = false
-holdsEpoch Epoch = false
-holdsEpoch (Again e) = true
-holdsEpoch (GateAgain e) = true
-holdsEpoch (Wait e) = true
-holdsEpoch Asleep = false
-holdsEpoch CloseSet = false
-holdsEpoch CloseRaise = false
-holdsEpoch CloseWake = false
-holdsEpoch (ShutSet c) = false
-holdsEpoch (ShutRaiseNe c) = false
-holdsEpoch (ShutWakeNe c) = false
-holdsEpoch (ShutRaiseNf c e) = false
-holdsEpoch (ShutWakeNf c e) = false
+holdsEpoch s = holdsEpochAt (phase s)
 
 -- the call under way meets the premises: its buffer is big enough for the note that it will come to, and its bell has not
 -- come round
@@ -197,28 +177,21 @@ Underway Recorder w =
     × (beforeCopy (partyIn w Recorder .step) ≡ true → (n : Note) (rest : List Note) → w .trace .sent ≡ w .trace .got ++ (n ∷ rest) → length (n .body) ≤ partyIn w Recorder .length)
 
 -- a step of a blocking call that finds no room
+abbrev pub inWaitAt : Phase → Bool
+inWaitAt resting = false
+inWaitAt looking = true
+inWaitAt copying = false
+inWaitAt (publishing l t) = false
+inWaitAt (telling l t) = false
+inWaitAt asking = true
+inWaitAt (armed e) = true
+inWaitAt (poised e) = true
+inWaitAt (waits e) = true
+inWaitAt sleeps = true
+inWaitAt leaving = false
+
 abbrev pub inWait : Step → Bool
-inWait Rest = false
-inWait Look = true
-inWait Copy = false
-inWait (Publish l t) = false
-inWait (Check l t) = false
-inWait (Raise l t) = false
-inWait (Wake l t) = false
-inWait Gate = true
-inWait Epoch = true
-inWait (Again e) = true
-inWait (GateAgain e) = true
-inWait (Wait e) = true
-inWait Asleep = true
-inWait CloseSet = false
-inWait CloseRaise = false
-inWait CloseWake = false
-inWait (ShutSet c) = false
-inWait (ShutRaiseNe c) = false
-inWait (ShutWakeNe c) = false
-inWait (ShutRaiseNf c e) = false
-inWait (ShutWakeNf c e) = false
+inWait s = inWaitAt (phase s)
 
 -- turns of its own, none of which fails
 abbrev pub Turns : Side → List Happening → Type 0
