@@ -1,0 +1,29 @@
+use Prim.Native.Nat.{_≤_, _-_, _^_}
+use borrow.Author.Needs.{needs}
+use Rattle.cases.proofs.main.Statement.{statement}
+use Rattle.cases.proofs.main.Tie as tie
+
+abbrev Inv-loop : tie.InvT-loop
+Inv-loop region₀ kept₀ payload₀ buffer₀ s₀ reads₀ region kept payload buffer s reads = reads ≤ 2 ^ 62
+
+abbrev μ-loop : tie.MeasureT-loop
+μ-loop region₀ kept₀ payload₀ buffer₀ s₀ reads₀ region kept payload buffer s reads = 2 ^ 62 - reads
+
+pub main-spec : {M : Type 1} → statement M
+main-spec =
+    tie.close
+    (tie.spec
+    Inv-loop
+    μ-loop
+    (λ c κs. search needs)
+    (λ c κs. search needs)
+    (λ c κs. search needs)
+    (λ c κs. search needs)
+    (λ c κs. search needs)
+    (λ c. search needs)
+    (λ c κs. search needs)
+    (λ c. search needs)
+    (λ c. search needs)
+    (λ c. search needs)
+    (λ c. search needs)
+    (λ c. search needs))

@@ -1,0 +1,18 @@
+use borrow.Author.Needs.{needs}
+use mathlib.Core.Path.{sym}
+use native.Mathlib.Omega.{arith}
+use lib.Seq.{length-take-le}
+use Rattle.cases.proofs.stage.within.Statement.{statement}
+use Rattle.cases.proofs.stage.within.Tie as tie
+
+returns : tie.Need-returns
+returns c =
+    let l = c .least .ensures .1 in
+    ((l, sym (length-take-le (c .least .result) (c .before .before .args .s .now) l)), omega (arith, c .least .ensures .0))
+
+pub within-spec : {M : Type 1} → statement M
+within-spec =
+    tie.close
+    (tie.spec
+    (λ c κs. search needs)
+    returns)
