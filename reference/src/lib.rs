@@ -30,6 +30,7 @@
 
 pub mod answer;
 pub mod bench;
+pub mod cases;
 pub mod compare;
 pub mod coverage;
 pub mod dice;

@@ -5,13 +5,14 @@ use std::fs::File;
 use std::io::{self, BufWriter, ErrorKind, Read, Write};
 use std::process::ExitCode;
 
+use reference::cases::{case::Case, stage::REPORT};
 use reference::compare::{compare, Verdict};
 use reference::coverage::Coverage;
 use reference::explore::{lost, needed, Report};
 use reference::random::Generator;
 use reference::rounds::{self, rounds, Played};
 use reference::stream::{play, Trouble};
-use reference::{readout, text};
+use reference::{cases, readout, text};
 
 const USAGE: &str = "\
 The queue of document 01, played by its reference.
@@ -53,6 +54,14 @@ usage:
       tells a shortest run that breaks a theorem without one of its premises, or the
       numbers that show that it stands; `list` names the premises
       (both end with status 1 if it does not come out as docs/NEEDED.md says)
+  reference cases script > SCRIPT
+      writes the cases that the program `cases` plays, as records of 16 bytes
+  reference cases report > REPORT
+      plays them, and writes the report of 28 bytes that must come of each
+  reference cases read
+      writes the cases with their answers as lines, each case under its name
+  reference cases compare REPORT
+      says `same, N records`, or the first record of the report that differs
 
 Status: 0 well, 1 a difference, a bad line, or a failed read or write, 2 bad arguments.
 ";
@@ -94,6 +103,10 @@ fn main() -> ExitCode {
         (
             "play" | "random" | "compare" | "rounds" | "tour" | "write" | "read" | "lost"
             | "needed" | "help" | "--help" | "-h",
+        ("cases", [what, rest @ ..]) => match cases_command(what, rest) {
+            Some(outcome) => outcome,
+            None => return usage("`cases` takes script, report, read, or compare with a REPORT"),
+            "play" | "random" | "compare" | "write" | "read" | "cases" | "help" | "--help" | "-h",
             _,
         ) => {
             return usage(&format!(
@@ -217,5 +230,40 @@ fn read_files(script: &OsStr, report: &OsStr) -> Outcome {
         Err(trouble) if trouble.error.kind() == ErrorKind::BrokenPipe => Ok(ExitCode::SUCCESS),
         Err(trouble) => Err(trouble.to_string()),
         Ok(()) => Ok(ExitCode::SUCCESS),
+    }
+}
+
+/// None where the arguments are not what `cases` takes.
+fn cases_command(what: &OsStr, rest: &[OsString]) -> Option<Outcome> {
+    let cases = cases::list();
+    Some(match (what.to_str()?, rest) {
+        ("script", []) => give(&cases::script(&cases), "write the script"),
+        ("report", []) => give(&cases::report(&cases), "write the report"),
+        ("read", []) => read_cases(&cases),
+        ("compare", [report]) => compare_cases(&cases, report),
+        _ => return None,
+    })
+}
+
+fn read_cases(cases: &[Case]) -> Outcome {
+    match io::stdout().lock().write_all(cases::read(cases).as_bytes()) {
+        Err(error) if error.kind() != ErrorKind::BrokenPipe => {
+            Err(format!("cannot write the lines: {error}"))
+        }
+        _ => Ok(ExitCode::SUCCESS),
+    }
+}
+
+fn compare_cases(cases: &[Case], report: &OsStr) -> Outcome {
+    let mut found = Vec::new();
+    open(report)?
+        .read_to_end(&mut found)
+        .map_err(|error| format!("cannot read the report: {error}"))?;
+    match cases::difference(cases, &found) {
+        None => say(&format!("same, {} records\n", found.len() / REPORT)),
+        Some(line) => {
+            say(&format!("{line}\n"))?;
+            Ok(ExitCode::FAILURE)
+        }
     }
 }

@@ -29,7 +29,7 @@ const ROOM: usize = 4096;
 // values of a sweep were accepted, and the sums of region, buffer, parties and sweep.
 const CASE: usize = 16;
 
-const REPORT: usize = 48;
+const REPORT: usize = 28;
 
 // How a record leaves both parties and what is lent, and whether another is to be read.
 struct Next {
@@ -87,21 +87,21 @@ fn act(
 }
 
 fn tell8(out: &mut [u8; REPORT], at: usize, x: u8)
-    requires { ⌜ at + 1 ≤ 48 ⌝ }
+    requires { ⌜ at + 1 ≤ 28 ⌝ }
 {
     words::store8(out, at, x);
 }
 
 fn tell16(out: &mut [u8; REPORT], at: usize, x: u16)
-    requires { ⌜ at + 2 ≤ 48 ⌝ }
+    requires { ⌜ at + 2 ≤ 28 ⌝ }
 {
     words::store16(out, at, x);
 }
 
-fn tell64(out: &mut [u8; REPORT], at: usize, x: u64)
-    requires { ⌜ at + 8 ≤ 48 ⌝ }
+fn tell32(out: &mut [u8; REPORT], at: usize, x: u32)
+    requires { ⌜ at + 4 ≤ 28 ⌝ }
 {
-    words::store64(out, at, x);
+    words::store32(out, at, x);
 }
 
 fn tell_answer(out: &mut [u8; REPORT], kind: u8, told: Told) {
@@ -121,17 +121,17 @@ fn tell_parties(out: &mut [u8; REPORT], bench: Bench) {
     let second = sums::stand_of(other);
     tell8(out, 8, first.step);
     tell8(out, 9, second.step);
-    tell64(
+    tell32(
         out,
-        32,
+        20,
         sums::mix_party(sums::mix_party(0, sender), recorder),
     );
 }
 
 fn tell_bytes(out: &mut [u8; REPORT], region: &[u8], buffer: &[u8], length: usize) {
     let r = stage::within(length, region);
-    tell64(out, 16, sums::mix_bytes(0, &region[..r]));
-    tell64(out, 24, sums::mix_bytes(0, buffer));
+    tell32(out, 12, sums::mix_bytes(0, &region[..r]));
+    tell32(out, 16, sums::mix_bytes(0, buffer));
 }
 
 // A report shows what came of a record, where both parties stand, and sums of all that may have changed.
@@ -150,7 +150,7 @@ fn report(
     tell_parties(out, bench);
     tell_bytes(out, region, buffer, s.region);
     tell16(out, 10, tries.accepted);
-    tell64(out, 40, tries.sum);
+    tell32(out, 24, tries.sum);
 }
 
 // False, with a message, where the report cannot be written.

@@ -25,7 +25,7 @@ pub(crate) struct Stage {
 // The attaches of a sweep: how many were accepted, and the sum of all that they gave back.
 pub(crate) struct Tries {
     pub(crate) accepted: u16,
-    pub(crate) sum: u64,
+    pub(crate) sum: u32,
 }
 
 // What came of a record.

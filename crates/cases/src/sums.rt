@@ -11,25 +11,25 @@ pub(crate) struct Stand {
     second: u16,
 }
 
-// Sums stay below this, so that none wraps. The factor is odd: one changed byte always shows.
-const SUMS: u64 = 0x100_0000_0000_0000;
+// A sum is the lowest 32 bits. The factor is odd: one changed value always shows.
+const LIMIT: u64 = 0x1_0000_0000;
 
-const FACTOR: u64 = 251;
+const FACTOR: u64 = 0x100_0193;
 
-pub(crate) fn mix(sum: u64, x: u32) -> u64 {
-    (sum % SUMS * FACTOR + x as u64 + 1) % SUMS
+pub(crate) fn mix(sum: u32, x: u32) -> u32 {
+    ((sum as u64 * FACTOR + x as u64 + 1) % LIMIT) as u32
 }
 
-fn mix_wide(sum: u64, x: u64) -> u64 {
-    let low = mix(sum, (x % 0x1_0000_0000) as u32);
-    mix(low, (x / 0x1_0000_0000) as u32)
+fn mix_wide(sum: u32, x: u64) -> u32 {
+    let low = mix(sum, (x % LIMIT) as u32);
+    mix(low, (x / LIMIT) as u32)
 }
 
-fn mix_bool(sum: u64, x: bool) -> u64 {
+fn mix_bool(sum: u32, x: bool) -> u32 {
     if x { mix(sum, 1) } else { mix(sum, 0) }
 }
 
-fn mix_side(sum: u64, side: Side) -> u64 {
+fn mix_side(sum: u32, side: Side) -> u32 {
     match side {
         Side::Sender => mix(sum, 0),
         Side::Recorder => mix(sum, 1),
@@ -40,7 +40,7 @@ fn wide(x: u8) -> u32 {
     x as u32
 }
 
-pub(crate) fn mix_bytes(sum: u64, s: &[u8]) -> u64 {
+pub(crate) fn mix_bytes(sum: u32, s: &[u8]) -> u32 {
     let mut all = sum;
     for k in 0..s.len() {
         all = mix(all, wide(s[k]));
@@ -91,13 +91,13 @@ pub(crate) fn stand_of(step: Step) -> Stand {
     }
 }
 
-fn mix_stand(sum: u64, at: Stand) -> u64 {
+fn mix_stand(sum: u32, at: Stand) -> u32 {
     let step = mix(sum, at.step as u32);
     let first = mix(step, at.first);
     mix(first, at.second as u32)
 }
 
-fn mix_own(sum: u64, own: Own) -> u64 {
+fn mix_own(sum: u32, own: Own) -> u32 {
     let side = own.side;
     let whose = mix_side(sum, side);
     let attached = mix_bool(whose, own.attached);
@@ -106,7 +106,7 @@ fn mix_own(sum: u64, own: Own) -> u64 {
     mix_bool(slot, own.notfull)
 }
 
-pub(crate) fn mix_party(sum: u64, p: Party) -> u64 {
+pub(crate) fn mix_party(sum: u32, p: Party) -> u32 {
     let own = p.own;
     let step = p.step;
     let kept = mix_own(sum, own);

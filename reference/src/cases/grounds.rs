@@ -1,0 +1,240 @@
+//! Cases of answer 20: each of its grounds, at rest, in a call and asleep.
+
+use crate::cases::case::{Case, Ring, SIDES};
+use crate::cases::record::{Ask, Field, Part};
+use crate::party::Side;
+use Side::{Recorder, Sender};
+
+pub fn list() -> Vec<Case> {
+    let mut cases = vec![nobody_attached()];
+    for side in SIDES {
+        for stance in STANCES {
+            cases.push(spoiled(side, stance));
+            cases.push(other_lengths(side, stance));
+        }
+        cases.push(while_it_runs(side));
+        cases.push(copies(side));
+    }
+    cases.push(any_length());
+    cases
+}
+
+/// Where a party stands when it is asked.
+#[derive(Clone, Copy)]
+enum Stance {
+    Rest,
+    Call,
+    Asleep,
+}
+
+const STANCES: [Stance; 3] = [Stance::Rest, Stance::Call, Stance::Asleep];
+
+impl Stance {
+    fn name(self) -> &'static str {
+        match self {
+            Stance::Rest => "at rest",
+            Stance::Call => "in a call",
+            Stance::Asleep => "asleep",
+        }
+    }
+
+    fn reach(self, case: Case, side: Side) -> Case {
+        match self {
+            Stance::Rest => case,
+            Stance::Call => case.blocking_call(side),
+            Stance::Asleep => case.asleep(side),
+        }
+    }
+}
+
+fn push(blocking: bool, length: u32) -> Ask {
+    Ask::Push {
+        blocking,
+        tag: 3,
+        length,
+    }
+}
+
+/// A begin of a push or a pop, as the side has it.
+fn begin(side: Side) -> Ask {
+    match side {
+        Sender => push(false, 1),
+        Recorder => Ask::Pop {
+            blocking: false,
+            length: 8,
+        },
+    }
+}
+
+/// All that may be asked of a side.
+fn entries(side: Side) -> [Ask; 8] {
+    [
+        Ask::Turn(side),
+        Ask::Failing(side, 5),
+        Ask::Failing(side, 0),
+        Ask::Spurious(side),
+        Ask::TimeOut(side),
+        begin(side),
+        Ask::Close(side),
+        Ask::Shutdown(side),
+    ]
+}
+
+fn nobody_attached() -> Case {
+    Case::new("Answer 20: party not attached")
+        .ask(Ask::Lend(Part::Region, Ring::SMALL.total()))
+        .ask(Ring::SMALL.create())
+        .asks(SIDES.into_iter().flat_map(entries))
+}
+
+/// Each field out of its limits, and then as it was. The good values are those of the ring and
+/// of the calls that a stance is reached by.
+fn spoiled(side: Side, stance: Stance) -> Case {
+    let good_length = match (side, stance) {
+        (Recorder, Stance::Rest) => 0,
+        (Recorder, _) => 8,
+        (Sender, Stance::Rest) => 0,
+        (Sender, _) => 5,
+    };
+    let good = [
+        Field::Attached(true),
+        Field::Side(side),
+        Field::Power(Ring::SMALL.power),
+        Field::SlotSize(Ring::SMALL.slot_size),
+        Field::Length(good_length),
+    ];
+    let bad: [&[Field]; 5] = [
+        &[Field::Attached(false)],
+        &[Field::Side(side.other())],
+        &[Field::Power(0), Field::Power(11), Field::Power(255)],
+        &[
+            Field::SlotSize(0),
+            Field::SlotSize(12),
+            Field::SlotSize(4104),
+            Field::SlotSize(u32::MAX),
+        ],
+        &[Field::Length(9), Field::Length(u32::MAX)],
+    ];
+    let name = format!(
+        "Answer 20: a record out of its limits, {} {}",
+        side.name(),
+        stance.name()
+    );
+    let mut case = stance.reach(Case::on(name, Ring::SMALL), side);
+    for (bad, good) in bad.into_iter().zip(good) {
+        // A pop may name any length, and then what is asked is done.
+        if side == Recorder && matches!(good, Field::Length(_)) {
+            continue;
+        }
+        for &field in bad {
+            case = case.ask(Ask::Spoil(side, field)).asks(entries(side));
+        }
+        case = case.ask(Ask::Spoil(side, good));
+    }
+    case.turns(side, 1)
+}
+
+/// A region of another length is 20 at every turn, at rest and asleep too; nothing else looks
+/// at it.
+fn other_lengths(side: Side, stance: Stance) -> Case {
+    let total = Ring::SMALL.total();
+    let name = format!(
+        "Answer 20: wrong region length, {} {}",
+        side.name(),
+        stance.name()
+    );
+    let mut case = stance.reach(Case::on(name, Ring::SMALL), side);
+    for length in [0, 383, 384, total - 1, total + 1, 65_536] {
+        case = case
+            .ask(Ask::Lend(Part::Region, length))
+            .ask(Ask::Turn(side))
+            .ask(Ask::Failing(side, 5));
+    }
+    case.ask(Ask::Lend(Part::Region, total))
+        .turns(side, 1)
+        .ask(Ask::Spurious(side))
+}
+
+/// At every step of a call that sleeps and then copies: what is begun meanwhile, an announced
+/// error 0, and what only a sleeper hears.
+fn while_it_runs(side: Side) -> Case {
+    let other = side.other();
+    let name = format!(
+        "Answer 20: begun while a call of the {} runs; error 0",
+        side.name()
+    );
+    let mut case = Case::on(name, Ring::SMALL).stuck(side).blocking_call(side);
+    let meanwhile = [
+        begin(side),
+        Ask::Close(side),
+        Ask::Shutdown(side),
+        Ask::Failing(side, 0),
+    ];
+    for _ in 0..6 {
+        case = case.asks(meanwhile).ask(Ask::TimeOut(side)).turns(side, 1);
+        // The time-out at the sleep itself is another case's.
+    }
+    case = case.asks(meanwhile);
+    case = match other {
+        Sender => case.sent(1),
+        Recorder => case.pop(false, 8).turns(Recorder, 6),
+    };
+    for _ in 0..6 {
+        case = case.asks(meanwhile).turns(side, 1);
+    }
+    case
+}
+
+/// A copy turn lent a buffer of another length than the call named.
+fn copies(side: Side) -> Case {
+    let (part, named) = match side {
+        Sender => (Part::Payload, 5),
+        Recorder => (Part::Buffer, 8),
+    };
+    let name = format!(
+        "Answer 20: a copy of the {} lent another length",
+        side.name()
+    );
+    let case = Case::on(name, Ring::SMALL);
+    let mut case = match side {
+        Sender => case,
+        Recorder => case.sent(1),
+    };
+    case = case.blocking_call(side);
+    let wrong = [0, named - 1, named + 1, 4096];
+    // At the look it does not matter.
+    case = case.ask(Ask::Lend(part, 0)).turns(side, 1);
+    for length in wrong {
+        case = case
+            .ask(Ask::Lend(part, length))
+            .ask(Ask::Turn(side))
+            .ask(Ask::Failing(side, 5));
+    }
+    case.ask(Ask::Lend(part, named))
+        .turns(side, 1)
+        .ask(Ask::Lend(part, 0))
+        .turns(side, 4)
+}
+
+/// Begin order and lengths at the type's ends.
+fn any_length() -> Case {
+    Case::on(
+        "Begin order 20, 11, 19, 18; a pop may name any length",
+        Ring::OFF,
+    )
+    .ask(push(true, 9))
+    .ask(push(false, 9))
+    .ask(push(false, u32::MAX))
+    .ask(Ask::Pop {
+        blocking: true,
+        length: u32::MAX,
+    })
+    .turns(Recorder, 6)
+    .ask(Ask::Close(Sender))
+    .turns(Sender, 3)
+    .ask(push(true, 9))
+    .ask(push(false, 9))
+    .ask(Ask::Spoil(Sender, Field::Length(9)))
+    .ask(push(true, 9))
+    .ask(Ask::Shutdown(Sender))
+}
