@@ -66,22 +66,20 @@ fn act(
     let value = words::load64(given, 8);
     let side = records::side_of(part);
     let on = part % 2 == 1;
-    let low = (tag % 256) as u8;
-    let high = (tag / 256) as u8;
+    let power = (tag % 256) as u8;
     match kind {
         0..=7 => {
             let e = event_of(kind, side, on, tag, number);
             stage::play_event(region, payload, buffer, s, e)
         }
         8 => stage::join(region, s, side),
-        9 => stage::make(region, s, low, number, on, value),
+        9 => stage::make(region, s, power, number, on, value),
         10 => stage::sweep(region, kept, s, side, number),
-        11 => stage::renew(),
+        11 => stage::renew(region, payload, buffer),
         12 => stage::lend(s, part, number),
-        13 => stage::fill(region, payload, buffer, s, part, low, high),
-        14 => stage::put(region, s, part, number, value),
-        15 => stage::keep(region, kept, s),
-        16 => spoils::spoil(s, side, tag, value),
+        13 => stage::put(region, s, part, number, value),
+        14 => stage::keep(region, kept, s),
+        15 => spoils::spoil(s, side, tag, value),
         _ => stage::refused(s),
     }
 }

@@ -96,11 +96,6 @@ pub(crate) fn opened() -> Stage {
     }
 }
 
-// A fresh case.
-pub(crate) fn renew() -> Acted {
-    done(opened())
-}
-
 pub(crate) fn play_event(
     region: &mut [u8],
     payload: &[u8],
@@ -164,25 +159,18 @@ fn fill_from(s: &mut [u8], first: u8, step: u8) {
     }
 }
 
-fn filled(bytes: &mut [u8], s: Stage, first: u8, step: u8) -> Acted {
-    fill_from(bytes, first, step);
-    done(s)
+// A byte that is written, or left alone, shows in a pattern.
+fn fill_all(region: &mut [u8], payload: &mut [u8], buffer: &mut [u8]) {
+    fill_from(region, 0xA5, 3);
+    fill_from(payload, 0x41, 1);
+    fill_from(buffer, 0xEE, 0);
 }
 
-pub(crate) fn fill(
-    region: &mut [u8],
-    payload: &mut [u8],
-    buffer: &mut [u8],
-    s: Stage,
-    part: u8,
-    first: u8,
-    step: u8,
-) -> Acted {
-    match part {
-        0 => filled(region, s, first, step),
-        1 => filled(payload, s, first, step),
-        _ => filled(buffer, s, first, step),
-    }
+// A fresh case.
+pub(crate) fn renew(region: &mut [u8], payload: &mut [u8], buffer: &mut [u8]) -> Acted {
+    let fresh = done(opened());
+    fill_all(region, payload, buffer);
+    fresh
 }
 
 // The lowest bytes of a value, put anywhere into the region.

@@ -51,18 +51,10 @@ pub struct Case {
 }
 
 impl Case {
-    /// Nobody attached, nothing lent; patterns in region, payload and buffer, so that a byte
-    /// that is written or left alone shows.
     pub fn new(name: impl Into<String>) -> Self {
-        let fill = |part, first, step| Ask::Fill { part, first, step };
         Case {
             name: name.into(),
-            asks: vec![
-                Ask::Renew,
-                fill(Part::Region, 0xA5, 3),
-                fill(Part::Payload, 0x41, 1),
-                fill(Part::Buffer, 0xEE, 0),
-            ],
+            asks: vec![Ask::Renew],
         }
     }
 

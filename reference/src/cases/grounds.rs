@@ -172,7 +172,6 @@ fn while_it_runs(side: Side) -> Case {
     ];
     for _ in 0..6 {
         case = case.asks(meanwhile).ask(Ask::TimeOut(side)).turns(side, 1);
-        // The time-out at the sleep itself is another case's.
     }
     case = case.asks(meanwhile);
     case = match other {

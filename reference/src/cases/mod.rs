@@ -6,6 +6,8 @@ mod damage;
 mod grounds;
 mod headers;
 pub mod record;
+mod rings;
+mod spoilt;
 pub mod stage;
 mod sums;
 mod turns;
@@ -22,9 +24,11 @@ use crate::words;
 pub fn list() -> Vec<Case> {
     [
         turns::list(),
+        rings::list(),
         damage::list(),
         grounds::list(),
         headers::list(),
+        vec![spoilt::headers()],
         walks::list(),
     ]
     .concat()

@@ -64,16 +64,10 @@ pub enum Ask {
         side: Side,
         at: u32,
     },
-    /// Nobody is attached and nothing is lent any more.
+    /// Nobody is attached, nothing is lent, and region, payload and buffer hold their patterns.
     Renew,
     /// From now on so many bytes are lent.
     Lend(Part, u32),
-    /// All the bytes there are: the first, and each a step above the one before it.
-    Fill {
-        part: Part,
-        first: u8,
-        step: u8,
-    },
     /// The lowest bytes of a value, stored in the region whatever the rules say.
     Put {
         at: u32,
@@ -126,11 +120,8 @@ impl Ask {
             Ask::Sweep { side, at } => (10, side as u8, 0, at, 0),
             Ask::Renew => (11, 0, 0, 0, 0),
             Ask::Lend(part, length) => (12, part as u8, 0, length, 0),
-            Ask::Fill { part, first, step } => {
-                (13, part as u8, u16::from_le_bytes([first, step]), 0, 0)
-            }
-            Ask::Put { at, width, value } => (14, width, 0, at, value),
-            Ask::Keep => (15, 0, 0, 0, 0),
+            Ask::Put { at, width, value } => (13, width, 0, at, value),
+            Ask::Keep => (14, 0, 0, 0, 0),
             Ask::Spoil(side, field) => spoil_fields(side, field),
             Ask::Unknown(kind) => (kind, 0, 0, 0, 0),
         }
@@ -166,9 +157,6 @@ impl Ask {
             }
             Ask::Renew => "renew".into(),
             Ask::Lend(part, length) => format!("lend {} {length}", part.name()),
-            Ask::Fill { part, first, step } => {
-                format!("fill {} from {first:#04X} by {step}", part.name())
-            }
             Ask::Put { at, width, value } => {
                 let width = usize::from(width).min(8);
                 let bytes = words::hex(&value.to_le_bytes()[..width]);
@@ -189,7 +177,7 @@ fn spoil_fields(side: Side, field: Field) -> Fields {
         Field::SlotSize(size) => (3, size.into()),
         Field::Length(length) => (4, length.into()),
     };
-    (16, side as u8, tag, 0, value)
+    (15, side as u8, tag, 0, value)
 }
 
 fn mode(blocking: bool) -> &'static str {

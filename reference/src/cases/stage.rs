@@ -31,6 +31,16 @@ impl Lent {
         self.length = self.bytes.len().min(length as usize);
     }
 
+    /// Lends nothing; the bytes go up by a step from a first one.
+    fn renew(&mut self, first: u8, step: u8) {
+        let mut next = first;
+        for byte in &mut self.bytes {
+            *byte = next;
+            next = next.wrapping_add(step);
+        }
+        self.length = 0;
+    }
+
     fn part(&self) -> &[u8] {
         &self.bytes[..self.length]
     }
@@ -163,7 +173,6 @@ impl Stage {
         match ask {
             Ask::Renew => self.renew(),
             Ask::Lend(part, length) => self.lent_mut(part).lend(length),
-            Ask::Fill { part, first, step } => fill(&mut self.lent_mut(part).bytes, first, step),
             Ask::Keep => self.kept.copy_from_slice(&self.region.bytes),
             Ask::Spoil(side, field) => spoil(self.bench.party_mut(side), field),
             _ => {}
@@ -221,10 +230,11 @@ impl Stage {
         tries
     }
 
+    /// The patterns let a byte that is written, or left alone, show.
     fn renew(&mut self) {
-        for part in [Part::Region, Part::Payload, Part::Buffer] {
-            self.lent_mut(part).lend(0);
-        }
+        self.region.renew(0xA5, 3);
+        self.payload.renew(0x41, 1);
+        self.buffer.renew(0xEE, 0);
         self.bench = nobody();
     }
 
@@ -241,14 +251,6 @@ fn nobody() -> Bench {
     Bench {
         sender: Party::unattached(Side::Sender),
         recorder: Party::unattached(Side::Recorder),
-    }
-}
-
-fn fill(bytes: &mut [u8], first: u8, step: u8) {
-    let mut next = first;
-    for byte in bytes {
-        *byte = next;
-        next = next.wrapping_add(step);
     }
 }
 

@@ -1,15 +1,13 @@
-//! Cases of calls that run: the bound, both options, counters at their end, sleep and wakes.
+//! Cases of calls that run: the bound, both options, sleep and wakes.
 
 use crate::cases::case::{Case, Ring, SIDES};
-use crate::cases::record::{Ask, Part};
+use crate::cases::record::Ask;
 use crate::header::Header;
 use crate::party::Side;
 use Side::{Recorder, Sender};
 
 pub fn list() -> Vec<Case> {
     let mut cases = vec![bound(), off(), off_ends(), off_shutdown(), unknown()];
-    cases.extend(STARTS.map(around));
-    cases.extend(sizes());
     cases.extend(SIDES.map(sleeper));
     cases.extend(SIDES.map(failing_waits));
     cases.extend(SIDES.map(late_bell));
@@ -73,73 +71,7 @@ fn off_shutdown() -> Case {
 }
 
 fn unknown() -> Case {
-    Case::new("A kind that asks nothing").ask(Ask::Unknown(17))
-}
-
-const STARTS: [u64; 5] = [
-    u64::MAX,
-    u64::MAX - 1,
-    u64::MAX - 3,
-    u32::MAX as u64,
-    1 << 63,
-];
-
-/// Three rounds of a full ring, over the counters' end.
-fn around(start: u64) -> Case {
-    let ring = Ring {
-        power: 2,
-        slot_size: 32,
-        start,
-        ..Ring::SMALL
-    };
-    let name = format!("Counters wrap: start {start:#X}, capacity 4");
-    let mut case = Case::on(name, ring);
-    for round in 0..2 {
-        for note in 0..4 {
-            let turns = if note == 0 { 6 } else { 4 };
-            case = case.push(false, 4 * round + note, 24).turns(Sender, turns);
-        }
-        case = case.push(false, 99, 1).turns(Sender, 1);
-        for note in 0..4 {
-            let turns = if note == 0 { 6 } else { 4 };
-            case = case.pop(false, 24).turns(Recorder, turns);
-        }
-        case = case.pop(false, 24).turns(Recorder, 1);
-    }
-    case
-}
-
-/// The least and the largest slot and power, each with a note of every length at its ends.
-fn sizes() -> Vec<Case> {
-    [(1, 8), (10, 8), (1, 4096), (3, 4096), (9, 96)]
-        .map(|(power, slot_size)| {
-            let ring = Ring {
-                power,
-                slot_size,
-                ..Ring::SMALL
-            };
-            let most = slot_size - 8;
-            let used = (1u64 << power) - 1;
-            let name = format!("Sizes: power {power}, slot {slot_size}");
-            Case::new(name)
-                .ask(Ask::Lend(Part::Region, ring.total()))
-                .ask(ring.create())
-                .put(Header::AT_HEAD, 8, used)
-                .ask(Ask::Attach(Sender))
-                .ask(Ask::Attach(Recorder))
-                .push(false, 1, most + 1)
-                .push(false, 0xFFFF, most)
-                .turns(Sender, 4)
-                .push(false, 2, 0)
-                .turns(Sender, 1)
-                .put(Header::AT_TAIL, 8, used)
-                .ask(Ask::Attach(Recorder))
-                .put(Header::AT_FLAGS, 1, 0x43)
-                .ask(Ask::Attach(Recorder))
-                .pop(false, most)
-                .turns(Recorder, 4)
-        })
-        .into()
+    Case::new("A kind that asks nothing").ask(Ask::Unknown(16))
 }
 
 fn sleeper(side: Side) -> Case {
@@ -230,12 +162,16 @@ fn failing_closes(side: Side) -> Case {
         .turns(other, 1)
 }
 
+/// The other is asleep as it begins: a failed wake leaves it there.
 fn shutdowns(side: Side) -> Case {
     let other = side.other();
     let name = format!("Shutdown by the {}: the first failed wake", side.name());
-    let mut case = Case::on(name, Ring::SMALL);
+    let mut case = Case::on(name, Ring::SMALL).stuck(other);
     for failing in [None, Some(2), Some(4), Some(0)] {
-        case = case.ask(Ask::Shutdown(side));
+        case = case
+            .blocking_call(other)
+            .turns(other, 6)
+            .ask(Ask::Shutdown(side));
         for turn in 0..5 {
             case = case.ask(match failing {
                 Some(from) if turn >= from => Ask::Failing(side, 30 + turn),
@@ -243,10 +179,9 @@ fn shutdowns(side: Side) -> Case {
             });
         }
         case = case
-            .put(Header::AT_FLAGS, 1, 0x47)
-            .blocking_call(other)
-            .turns(other, 6);
-        case = case.ask(Ask::TimeOut(other));
+            .turns(other, 2)
+            .ask(Ask::TimeOut(other))
+            .put(Header::AT_FLAGS, 1, 0x47);
     }
     case
 }
