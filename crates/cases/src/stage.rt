@@ -3,7 +3,6 @@
 use crate::sums::mix;
 use crate::sums::mix_bytes;
 use crate::sums::mix_party;
-ghost use mathlib.Core.Path.{_≡_};
 ghost use Prim.Native.Nat.{_≤_};
 ghost use Rattle.io.specs.Counts.{Counts};
 use records::least;
