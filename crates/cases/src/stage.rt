@@ -225,7 +225,7 @@ fn try_value(region: &mut [u8], kept: &[u8], side: Side, at: usize, x: u8, t: Tr
 fn try_values(region: &mut [u8], kept: &[u8], side: Side, at: usize) -> Tries {
     let mut tries = NO_TRIES;
     for x in 0..256u16 {
-        tries = try_value(region, kept, side, at, (x % 256) as u8, tries);
+        tries = try_value(region, kept, side, at, x as u8, tries);
     }
     copy_over(region, kept);
     tries
