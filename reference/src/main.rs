@@ -99,14 +99,14 @@ fn main() -> ExitCode {
             Some(report) => tell(&report),
             None => return usage("PREMISE is one of those that `reference needed list` names"),
         },
-        ("help" | "--help" | "-h", []) => say(USAGE),
-        (
-            "play" | "random" | "compare" | "rounds" | "tour" | "write" | "read" | "lost"
-            | "needed" | "help" | "--help" | "-h",
         ("cases", [what, rest @ ..]) => match cases_command(what, rest) {
             Some(outcome) => outcome,
             None => return usage("`cases` takes script, report, read, or compare with a REPORT"),
-            "play" | "random" | "compare" | "write" | "read" | "cases" | "help" | "--help" | "-h",
+        },
+        ("help" | "--help" | "-h", []) => say(USAGE),
+        (
+            "play" | "random" | "compare" | "rounds" | "tour" | "write" | "read" | "lost"
+            | "needed" | "cases" | "help" | "--help" | "-h",
             _,
         ) => {
             return usage(&format!(

@@ -19,6 +19,7 @@ struct Tools {
     stated: &'static str,
     prove: &'static str,
     tests: &'static str,
+    cases: &'static str,
     rounds: &'static str,
     show: &'static str,
 }
@@ -28,13 +29,14 @@ const GOOD: Tools = Tools {
     stated: "exit 0",
     prove: PROVED,
     tests: "exit 0",
+    cases: "echo 'the cases'",
     rounds: "echo 'same, 9 records in 1 scripts'",
     show: "echo 'what one.txt reads as'",
 };
 
 fn folder(name: &str, tools: &Tools) -> PathBuf {
     let folder = PathBuf::from(env!("CARGO_TARGET_TMPDIR")).join(format!("gate-{name}"));
-    for part in [".ci", "bin", "scripts"] {
+    for part in [".ci", "bin", "scripts", "crates/cases"] {
         fs::create_dir_all(folder.join(part)).unwrap();
     }
     fs::write(folder.join(".ci/run"), fs::read(GATE).unwrap()).unwrap();
@@ -45,11 +47,14 @@ fn folder(name: &str, tools: &Tools) -> PathBuf {
     );
     executable(&folder.join("bin/rt"), &rt);
     let cargo = format!(
-        "case $1 in\ntest) {} ;;\nbuild) exit 0 ;;\nrun) {} ;;\n*) exit 99 ;;\nesac",
-        tools.tests, tools.rounds
+        "case \"$*\" in\ntest*) {} ;;\nbuild*) exit 0 ;;\n*cases*) {} ;;\nrun*) {} ;;\n*) exit 99 ;;\nesac",
+        tools.tests, tools.cases, tools.rounds
     );
     executable(&folder.join("bin/cargo"), &cargo);
     executable(&folder.join("scripts/show"), tools.show);
+    for name in ["stdin", "stdout"] {
+        fs::write(folder.join("crates/cases").join(name), "the cases\n").unwrap();
+    }
     fs::write(folder.join("scripts/one.txt"), "").unwrap();
     fs::write(folder.join("scripts/one.read"), "what one.txt reads as\n").unwrap();
     folder
@@ -132,6 +137,13 @@ fn whatever_fails_fails_the_gate() {
             },
         ),
         ("tests", Tools { tests: bad, ..GOOD }),
+        (
+            "cases",
+            Tools {
+                cases: "echo 'other cases'",
+                ..GOOD
+            },
+        ),
         (
             "rounds",
             Tools {

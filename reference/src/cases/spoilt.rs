@@ -2,9 +2,9 @@
 
 use crate::cases::case::{Case, Ring};
 use crate::cases::record::{Ask, Part};
+use crate::dice::Dice;
 use crate::header::Header;
 use crate::party::Side;
-use crate::random::Dice;
 use Side::{Recorder, Sender};
 
 /// Good headers with one to three random damages, mostly where something is checked.

@@ -3,9 +3,9 @@
 use crate::cases::case::{Case, Ring};
 use crate::cases::record::{Ask, Part};
 use crate::cases::stage::Stage;
+use crate::dice::Dice;
 use crate::header::Header;
 use crate::party::{Side, Step};
-use crate::random::Dice;
 use Side::{Recorder, Sender};
 
 const SEED: u64 = 0x2026;
