@@ -75,7 +75,7 @@ pub fn ready(side: Side, p: Party) -> bool
     ensures { λ r. ⌜ r ≡ ready side p ⌝ }
 {
     let step = p.step;
-    let stance = machine::stance_of(step);
+    let stance = take::stance_of(step);
     let resting = is_resting(stance);
     let good = sound(side, p);
     both(good, resting)
@@ -85,7 +85,7 @@ pub fn sleeps(p: Party) -> bool
     ensures { λ r. ⌜ r ≡ isSleeping (stanceOf (p .step)) ⌝ }
 {
     let step = p.step;
-    let stance = machine::stance_of(step);
+    let stance = take::stance_of(step);
     is_sleeping(stance)
 }
 

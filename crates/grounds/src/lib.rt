@@ -61,7 +61,7 @@ fn lent_as_named(side: Side, p: Party, payload: usize, buffer: usize) -> bool
     ensures { λ r. ⌜ r ≡ lentOk (stanceOf (p .step)) (lentTo side payload buffer) (p .length) ⌝ }
 {
     let step = p.step;
-    let stance = machine::stance_of(step);
+    let stance = take::stance_of(step);
     let lent = lent_to(side, payload, buffer);
     lent_ok(stance, lent, p.length as usize)
 }

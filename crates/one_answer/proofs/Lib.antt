@@ -7,7 +7,7 @@ pub mod Create
 pub mod Grounds
 pub mod Header
 pub mod Looks
-pub mod Machine
+pub mod Next
 pub mod Night
 pub mod Opening
 pub mod Records
@@ -17,6 +17,7 @@ pub mod Seats
 pub mod Sizes
 pub mod Slots
 pub mod Steps
+pub mod Take
 pub mod Turns
 pub mod Types
 pub mod Words

@@ -19,9 +19,9 @@ fn run(region: &mut [u8], p: Party, payload: &[u8], buffer: &mut [u8], error: u1
     ensures given { λ r. ⌜ now (buffer .exit) ≡ runBuffer (now (region .entry)) p (now (buffer .entry)) ⌝ }
 {
     let own = p.own;
-    let a = machine::next(p);
+    let a = next::next(p);
     let value = access::perform(region, own, a, p.tag, payload, p.length, buffer);
-    let reply = machine::take(p, value, error);
+    let reply = take::take(p, value, error);
     let woke = grounds::woke_of(a, error);
     let party = reply.party;
     let answer = reply.answer;

@@ -1,7 +1,7 @@
--- One answer: crate `machine`.
+-- One answer: crate `take`.
 use mathlib.Core.Path.{refl, sym, _∙_}
 use Rattle.one_answer.specs.OneAnswer.{OneAnswer}
-use Rattle.machine.proofs as code
+use Rattle.take.proofs as code
 
 pub move-at : OneAnswer code.move_at.Kinds.ps code.move_at.Kinds.r code.move_at.Reads.Post
 move-at κs a z z′ ws ws′ p q = (p ∙ sym q, refl)
@@ -23,12 +23,3 @@ closed-after κs a z z′ ws ws′ p q = (p ∙ sym q, refl)
 
 pub take : OneAnswer code.take.Kinds.ps code.take.Kinds.r code.take.Reads.Post
 take κs a z z′ ws ws′ p q = (p ∙ sym q, refl)
-
-pub slot-access : OneAnswer code.slot_access.Kinds.ps code.slot_access.Kinds.r code.slot_access.Reads.Post
-slot-access κs a z z′ ws ws′ p q = (p ∙ sym q, refl)
-
-pub next-at : OneAnswer code.next_at.Kinds.ps code.next_at.Kinds.r code.next_at.Reads.Post
-next-at κs a z z′ ws ws′ p q = (p ∙ sym q, refl)
-
-pub next : OneAnswer code.next.Kinds.ps code.next.Kinds.r code.next.Reads.Post
-next κs a z z′ ws ws′ p q = (p ∙ sym q, refl)

@@ -1,6 +1,6 @@
 use borrow.Author.Needs.{needs}
-use Rattle.machine.proofs.slot_access.Statement.{statement}
-use Rattle.machine.proofs.slot_access.Tie as tie
+use Rattle.next.proofs.slot_access.Statement.{statement}
+use Rattle.next.proofs.slot_access.Tie as tie
 
 pub slot-access-spec : {M : Type 1} → statement M
 slot-access-spec =

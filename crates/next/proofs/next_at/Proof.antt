@@ -1,6 +1,6 @@
 use borrow.Author.Needs.{needs}
-use Rattle.machine.proofs.next_at.Statement.{statement}
-use Rattle.machine.proofs.next_at.Tie as tie
+use Rattle.next.proofs.next_at.Statement.{statement}
+use Rattle.next.proofs.next_at.Tie as tie
 
 pub next-at-spec : {M : Type 1} → statement M
 next-at-spec =

@@ -1,6 +1,6 @@
 use borrow.Author.Needs.{needs}
-use Rattle.machine.proofs.closed_after.Statement.{statement}
-use Rattle.machine.proofs.closed_after.Tie as tie
+use Rattle.take.proofs.closed_after.Statement.{statement}
+use Rattle.take.proofs.closed_after.Tie as tie
 
 pub closed-after-spec : {M : Type 1} → statement M
 closed-after-spec =

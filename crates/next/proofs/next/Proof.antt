@@ -1,7 +1,7 @@
 use borrow.Author.Needs.{needs}
 use Rattle.rules.specs.Next.{nextSpec}
-use Rattle.machine.proofs.next.Statement.{statement}
-use Rattle.machine.proofs.next.Tie as tie
+use Rattle.next.proofs.next.Statement.{statement}
+use Rattle.next.proofs.next.Tie as tie
 
 returns : tie.Need-returns
 unfolding nextSpec

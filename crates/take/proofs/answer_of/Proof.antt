@@ -1,6 +1,6 @@
 use borrow.Author.Needs.{needs}
-use Rattle.machine.proofs.answer_of.Statement.{statement}
-use Rattle.machine.proofs.answer_of.Tie as tie
+use Rattle.take.proofs.answer_of.Statement.{statement}
+use Rattle.take.proofs.answer_of.Tie as tie
 
 pub answer-of-spec : {M : Type 1} → statement M
 answer-of-spec =

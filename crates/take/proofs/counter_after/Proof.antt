@@ -1,6 +1,6 @@
 use borrow.Author.Needs.{needs}
-use Rattle.machine.proofs.counter_after.Statement.{statement}
-use Rattle.machine.proofs.counter_after.Tie as tie
+use Rattle.take.proofs.counter_after.Statement.{statement}
+use Rattle.take.proofs.counter_after.Tie as tie
 
 pub counter-after-spec : {M : Type 1} → statement M
 counter-after-spec =

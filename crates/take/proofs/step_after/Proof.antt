@@ -1,6 +1,6 @@
 use borrow.Author.Needs.{needs}
-use Rattle.machine.proofs.step_after.Statement.{statement}
-use Rattle.machine.proofs.step_after.Tie as tie
+use Rattle.take.proofs.step_after.Statement.{statement}
+use Rattle.take.proofs.step_after.Tie as tie
 
 pub step-after-spec : {M : Type 1} → statement M
 step-after-spec =

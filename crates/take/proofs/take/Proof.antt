@@ -1,7 +1,7 @@
 use borrow.Author.Needs.{needs}
 use Rattle.rules.specs.Take.{moveOf, takeSpec}
-use Rattle.machine.proofs.take.Statement.{statement}
-use Rattle.machine.proofs.take.Tie as tie
+use Rattle.take.proofs.take.Statement.{statement}
+use Rattle.take.proofs.take.Tie as tie
 
 returns : tie.Need-returns
 unfolding moveOf takeSpec

@@ -1,25 +1,13 @@
-// One party as a value: `next` names the one shared access of its next turn, and `take` says what becomes of it when the
-// access gave back a value, or was announced to fail. Neither touches the region.
+// What becomes of a party when its turn's one access gave back a value, or was announced to fail. The region is not touched.
 ghost use mathlib.Core.Path.{_≡_};
 ghost use Rattle.rules.specs.Take.{moveAt, stanceOf, stepAfter, answerOf, counterAfter, closedAfter, takeSpec};
-ghost use Rattle.rules.specs.Next.{slotAccess, nextAt, nextSpec};
-use header::Header;
-use types::Access;
 use types::Answer;
-use types::Bell;
-use types::Mark;
 use types::Move;
 use types::Own;
 use types::Party;
 use types::Reply;
-use types::Side;
 use types::Stance;
 use types::Step;
-
-// How many a wake wakes.
-pub const ONE: u32 = 1;
-
-pub const ALL: u32 = 2_147_483_647;
 
 // Where a turn at the step leads. An error is announced where a futex call fails, and is 0 otherwise.
 pub fn move_at(
@@ -155,56 +143,4 @@ pub fn take(p: Party, value: u64, error: u16) -> Reply
         step: onward,
     };
     Reply { party, answer }
-}
-
-// A push writes its slot, a pop reads it.
-pub fn slot_access(side: Side, counter: u64) -> Access
-    ensures { λ r. ⌜ r ≡ slotAccess side counter ⌝ }
-{
-    match side {
-        Side::Sender => Access::WriteSlot(counter),
-        Side::Recorder => Access::ReadSlot(counter),
-    }
-}
-
-// P6 and C6 wake one; close, shutdown and corruption wake all.
-pub fn next_at(step: Step, side: Side, counter: u64) -> Access
-    ensures { λ r. ⌜ r ≡ nextAt step side counter ⌝ }
-{
-    let them = looks::other(side);
-    let ring = looks::ring_bell(side);
-    let sleep = looks::sleep_bell(side);
-    let advanced = words::next64(counter);
-    match step {
-        Step::Rest => Access::None,
-        Step::Look => Access::LoadCounter(them),
-        Step::Copy => slot_access(side, counter),
-        Step::Publish(_, _) => Access::StoreCounter(side, advanced),
-        Step::Check(_, _) => Access::LoadCounter(them),
-        Step::Raise(_, _) => Access::RaiseBell(ring),
-        Step::Wake(_, _) => Access::WakeBell(ring, ONE),
-        Step::Gate => Access::LoadFlags,
-        Step::Epoch => Access::LoadBell(sleep),
-        Step::Again(_) => Access::LoadCounter(them),
-        Step::GateAgain(_) => Access::LoadFlags,
-        Step::Wait(epoch) => Access::WaitBell(sleep, epoch),
-        Step::Asleep => Access::None,
-        Step::CloseSet => Access::SetFlag(Header::close_mark(side)),
-        Step::CloseRaise => Access::RaiseBell(ring),
-        Step::CloseWake => Access::WakeBell(ring, ALL),
-        Step::ShutSet(_) => Access::SetFlag(Mark::Shutdown),
-        Step::ShutRaiseNe(_) => Access::RaiseBell(Bell::NotEmpty),
-        Step::ShutWakeNe(_) => Access::WakeBell(Bell::NotEmpty, ALL),
-        Step::ShutRaiseNf(_, _) => Access::RaiseBell(Bell::NotFull),
-        Step::ShutWakeNf(_, _) => Access::WakeBell(Bell::NotFull, ALL),
-    }
-}
-
-pub fn next(p: Party) -> Access
-    ensures { λ r. ⌜ r ≡ nextSpec p ⌝ }
-{
-    let own = p.own;
-    let side = own.side;
-    let step = p.step;
-    next_at(step, side, p.counter)
 }

@@ -1,6 +1,6 @@
 use borrow.Author.Needs.{needs}
-use Rattle.machine.proofs.move_at.Statement.{statement}
-use Rattle.machine.proofs.move_at.Tie as tie
+use Rattle.take.proofs.move_at.Statement.{statement}
+use Rattle.take.proofs.move_at.Tie as tie
 
 pub move-at-spec : {M : Type 1} → statement M
 move-at-spec =
