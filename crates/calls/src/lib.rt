@@ -1,93 +1,11 @@
-// A party between its turns: the test of its record, the calls that it begins, and what comes to it while it sleeps.
+// A party between its turns: the calls that it begins, and what comes to it while it sleeps.
 ghost use mathlib.Core.Path.{_≡_};
-ghost use mathlib.Core.Bool.{_&&_};
-ghost use Rattle.rules.specs.Calls.{isResting, isSleeping, lengthOk, sound, ready, reply, at, named, begins, pushSpec, popSpec, closeSpec, shutSpec, rouses, spuriousSpec, timeoutSpec};
-ghost use Rattle.rules.specs.Take.{stanceOf};
+ghost use Rattle.rules.specs.Calls.{reply, at, named, begins, pushSpec, popSpec, closeSpec, shutSpec, rouses, spuriousSpec, timeoutSpec};
 use types::Answer;
 use types::Party;
 use types::Reply;
 use types::Side;
-use types::Stance;
 use types::Step;
-
-// A chain of tests is a line of calls of this: `&&` would branch at each.
-pub fn both(a: bool, b: bool) -> bool
-    ensures { λ r. ⌜ r ≡ (a && b) ⌝ }
-{
-    if a { b } else { false }
-}
-
-fn is_resting(stance: Stance) -> bool
-    ensures { λ r. ⌜ r ≡ isResting stance ⌝ }
-{
-    match stance {
-        Stance::Resting => true,
-        Stance::Sleeping => false,
-        Stance::Copying => false,
-        Stance::Publishing => false,
-        Stance::Closing => false,
-        Stance::Moving => false,
-    }
-}
-
-fn is_sleeping(stance: Stance) -> bool
-    ensures { λ r. ⌜ r ≡ isSleeping stance ⌝ }
-{
-    match stance {
-        Stance::Resting => false,
-        Stance::Sleeping => true,
-        Stance::Copying => false,
-        Stance::Publishing => false,
-        Stance::Closing => false,
-        Stance::Moving => false,
-    }
-}
-
-// A push's length is tested; a pop may name any.
-fn length_ok(side: Side, length: u32, slot: u32) -> bool
-    ensures { λ r. ⌜ r ≡ lengthOk side length slot ⌝ }
-{
-    let most = sizes::payload_capacity(slot);
-    match side {
-        Side::Sender => length <= most,
-        Side::Recorder => true,
-    }
-}
-
-// 20's grounds that lie in the record. A record of the other side counts as one of a party not attached.
-pub fn sound(side: Side, p: Party) -> bool
-    ensures { λ r. ⌜ r ≡ sound side p ⌝ }
-{
-    let own = p.own;
-    let whose = own.side;
-    let same = looks::same_side(side, whose);
-    let power = sizes::power_ok(own.power);
-    let slot = sizes::slot_ok(own.slot);
-    let length = length_ok(side, p.length, own.slot);
-    let fits = both(slot, length);
-    let limits = both(power, fits);
-    let mine = both(same, limits);
-    both(own.attached, mine)
-}
-
-// 20's grounds at a begin: those, and that a call runs.
-pub fn ready(side: Side, p: Party) -> bool
-    ensures { λ r. ⌜ r ≡ ready side p ⌝ }
-{
-    let step = p.step;
-    let stance = take::stance_of(step);
-    let resting = is_resting(stance);
-    let good = sound(side, p);
-    both(good, resting)
-}
-
-pub fn sleeps(p: Party) -> bool
-    ensures { λ r. ⌜ r ≡ isSleeping (stanceOf (p .step)) ⌝ }
-{
-    let step = p.step;
-    let stance = take::stance_of(step);
-    is_sleeping(stance)
-}
 
 fn reply(p: Party, a: Answer) -> Reply
     ensures { λ r. ⌜ r ≡ reply p a ⌝ }
@@ -166,9 +84,9 @@ pub fn begin_push(p: Party, blocking: bool, tag: u16, length: u32) -> Reply
     ensures { λ r. ⌜ r ≡ pushSpec p blocking tag length ⌝ }
 {
     let own = p.own;
-    let goes = ready(Side::Sender, p);
-    let off = both(blocking, !own.notfull);
-    let fits = length_ok(Side::Sender, length, own.slot);
+    let goes = sound::ready(Side::Sender, p);
+    let off = sound::both(blocking, !own.notfull);
+    let fits = sound::length_ok(Side::Sender, length, own.slot);
     let begun = named(p, blocking, tag, length);
     begins(p, goes, p.closed, off, !fits, begun)
 }
@@ -177,7 +95,7 @@ pub fn begin_push(p: Party, blocking: bool, tag: u16, length: u32) -> Reply
 pub fn begin_pop(p: Party, blocking: bool, length: u32) -> Reply
     ensures { λ r. ⌜ r ≡ popSpec p blocking length ⌝ }
 {
-    let goes = ready(Side::Recorder, p);
+    let goes = sound::ready(Side::Recorder, p);
     let begun = named(p, blocking, 0, length);
     begins(p, goes, p.closed, false, false, begun)
 }
@@ -185,7 +103,7 @@ pub fn begin_pop(p: Party, blocking: bool, length: u32) -> Reply
 pub fn begin_close(side: Side, p: Party) -> Reply
     ensures { λ r. ⌜ r ≡ closeSpec side p ⌝ }
 {
-    let goes = ready(side, p);
+    let goes = sound::ready(side, p);
     let begun = at(p, Step::CloseSet);
     begins(p, goes, p.closed, false, false, begun)
 }
@@ -194,7 +112,7 @@ pub fn begin_close(side: Side, p: Party) -> Reply
 pub fn begin_shutdown(side: Side, p: Party) -> Reply
     ensures { λ r. ⌜ r ≡ shutSpec side p ⌝ }
 {
-    let goes = ready(side, p);
+    let goes = sound::ready(side, p);
     let begun = at(p, Step::ShutSet(false));
     begins(p, goes, false, false, false, begun)
 }
@@ -203,8 +121,8 @@ pub fn begin_shutdown(side: Side, p: Party) -> Reply
 pub fn spurious(side: Side, p: Party) -> Reply
     ensures { λ r. ⌜ r ≡ spuriousSpec side p ⌝ }
 {
-    let asleep = sleeps(p);
-    let goes = sound(side, p);
+    let asleep = sound::sleeps(p);
+    let goes = sound::sound(side, p);
     let looking = at(p, Step::Look);
     let roused = reply(looking, Answer::GoesOn);
     rouses(p, goes, asleep, roused)
@@ -214,8 +132,8 @@ pub fn spurious(side: Side, p: Party) -> Reply
 pub fn time_out(side: Side, p: Party) -> Reply
     ensures { λ r. ⌜ r ≡ timeoutSpec side p ⌝ }
 {
-    let asleep = sleeps(p);
-    let goes = sound(side, p);
+    let asleep = sound::sleeps(p);
+    let goes = sound::sound(side, p);
     let resting = at(p, Step::Rest);
     let roused = reply(resting, Answer::Timeout);
     rouses(p, goes, asleep, roused)

@@ -78,14 +78,14 @@ pub fn goes(
     ensures { λ r. ⌜ r ≡ goes side p region payload buffer fault ⌝ }
 {
     let own = p.own;
-    let good = calls::sound(side, p);
+    let good = sound::sound(side, p);
     let total = sizes::total_bytes(own.power, own.slot);
     let whole = region as u64 == total;
     let copy = lent_as_named(side, p, payload, buffer);
     let fine = fault_ok(fault);
-    let turn = calls::both(copy, fine);
-    let lent = calls::both(whole, turn);
-    calls::both(good, lent)
+    let turn = sound::both(copy, fine);
+    let lent = sound::both(whole, turn);
+    sound::both(good, lent)
 }
 
 fn woke_with(failed: bool, bell: Bell) -> Woke
@@ -147,8 +147,8 @@ pub fn wakened(side: Side, p: Party, w: Woke) -> Party
     ensures { λ r. ⌜ r ≡ wakened side p w ⌝ }
 {
     let heard = hears(side, w);
-    let asleep = calls::sleeps(p);
-    let up = calls::both(heard, asleep);
+    let asleep = sound::sleeps(p);
+    let up = sound::both(heard, asleep);
     if up {
         return calls::at(p, Step::Look);
     }

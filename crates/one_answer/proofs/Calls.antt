@@ -3,18 +3,6 @@ use mathlib.Core.Path.{refl, sym, _∙_}
 use Rattle.one_answer.specs.OneAnswer.{OneAnswer}
 use Rattle.calls.proofs as code
 
-pub both : OneAnswer code.both.Kinds.ps code.both.Kinds.r code.both.Reads.Post
-both κs a z z′ ws ws′ p q = (p ∙ sym q, refl)
-
-pub sound : OneAnswer code.sound.Kinds.ps code.sound.Kinds.r code.sound.Reads.Post
-sound κs a z z′ ws ws′ p q = (p ∙ sym q, refl)
-
-pub ready : OneAnswer code.ready.Kinds.ps code.ready.Kinds.r code.ready.Reads.Post
-ready κs a z z′ ws ws′ p q = (p ∙ sym q, refl)
-
-pub sleeps : OneAnswer code.sleeps.Kinds.ps code.sleeps.Kinds.r code.sleeps.Reads.Post
-sleeps κs a z z′ ws ws′ p q = (p ∙ sym q, refl)
-
 pub at : OneAnswer code.at.Kinds.ps code.at.Kinds.r code.at.Reads.Post
 at κs a z z′ ws ws′ p q = (p ∙ sym q, refl)
 

@@ -16,6 +16,7 @@ pub mod Script
 pub mod Seats
 pub mod Sizes
 pub mod Slots
+pub mod Sound
 pub mod Steps
 pub mod Take
 pub mod Turns

@@ -1,7 +1,7 @@
 use borrow.Author.Needs.{needs}
 use Rattle.rules.specs.Calls.{ready}
-use Rattle.calls.proofs.ready.Statement.{statement}
-use Rattle.calls.proofs.ready.Tie as tie
+use Rattle.sound.proofs.ready.Statement.{statement}
+use Rattle.sound.proofs.ready.Tie as tie
 
 returns : tie.Need-returns
 unfolding ready

@@ -1,6 +1,6 @@
 use borrow.Author.Needs.{needs}
-use Rattle.calls.proofs.length_ok.Statement.{statement}
-use Rattle.calls.proofs.length_ok.Tie as tie
+use Rattle.sound.proofs.length_ok.Statement.{statement}
+use Rattle.sound.proofs.length_ok.Tie as tie
 
 pub length-ok-spec : {M : Type 1} → statement M
 length-ok-spec =

@@ -1,7 +1,7 @@
 use borrow.Author.Needs.{needs}
 use Rattle.rules.specs.Calls.{sound}
-use Rattle.calls.proofs.sound.Statement.{statement}
-use Rattle.calls.proofs.sound.Tie as tie
+use Rattle.sound.proofs.sound.Statement.{statement}
+use Rattle.sound.proofs.sound.Tie as tie
 
 returns : tie.Need-returns
 unfolding sound
