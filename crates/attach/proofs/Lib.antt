@@ -1,3 +1,1 @@
-pub mod Tests
-pub mod Sums
 pub mod Joined

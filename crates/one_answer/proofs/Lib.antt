@@ -2,6 +2,7 @@ pub mod Access
 pub mod Attach
 pub mod Bench
 pub mod Calls
+pub mod Checks
 pub mod Copies
 pub mod Create
 pub mod Grounds

@@ -1,10 +1,10 @@
 use borrow.Author.Needs.{needs}
 use mathlib.Core.Path.{sym, _∙_}
 use borrow.Author.Tests.{lt-ltb, le-ltb}
-use Rattle.attach.proofs.Tests.{passed, refused}
+use Rattle.checks.proofs.Tests.{passed, refused}
 use Rattle.layout.specs.Attach.{flagChecks}
-use Rattle.attach.proofs.check_flags.Statement.{statement}
-use Rattle.attach.proofs.check_flags.Tie as tie
+use Rattle.checks.proofs.check_flags.Statement.{statement}
+use Rattle.checks.proofs.check_flags.Tie as tie
 
 returns : tie.Need-returns
 unfolding flagChecks

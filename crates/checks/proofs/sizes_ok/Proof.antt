@@ -1,7 +1,7 @@
 use borrow.Author.Needs.{needs}
 use Rattle.layout.specs.Attach.{sizesOk}
-use Rattle.attach.proofs.sizes_ok.Statement.{statement}
-use Rattle.attach.proofs.sizes_ok.Tie as tie
+use Rattle.checks.proofs.sizes_ok.Statement.{statement}
+use Rattle.checks.proofs.sizes_ok.Tie as tie
 
 returns : tie.Need-returns
 unfolding sizesOk

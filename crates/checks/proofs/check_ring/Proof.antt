@@ -1,9 +1,9 @@
 use borrow.Author.Needs.{needs}
 use borrow.Author.Tests.{eq-eqb, ne-eqb}
-use Rattle.attach.proofs.Tests.{passed, refused}
+use Rattle.checks.proofs.Tests.{passed, refused}
 use Rattle.layout.specs.Attach.{ringChecks}
-use Rattle.attach.proofs.check_ring.Statement.{statement}
-use Rattle.attach.proofs.check_ring.Tie as tie
+use Rattle.checks.proofs.check_ring.Statement.{statement}
+use Rattle.checks.proofs.check_ring.Tie as tie
 
 returns : tie.Need-returns
 unfolding ringChecks

@@ -3,9 +3,9 @@ use Prim.Native.Nat.{_+_}
 use native.Mathlib.Omega.{arith}
 use borrow.Author.Tests.{ne-eqb}
 use Rattle.layout.specs.Limits.{headerBytes}
-use Rattle.attach.proofs.Sums.{taken-off}
-use Rattle.attach.proofs.adds_up.Statement.{statement}
-use Rattle.attach.proofs.adds_up.Tie as tie
+use Rattle.checks.proofs.Sums.{taken-off}
+use Rattle.checks.proofs.adds_up.Statement.{statement}
+use Rattle.checks.proofs.adds_up.Tie as tie
 
 returns : tie.Need-returns
 returns c = sym (ne-eqb (c .before .args .total) (headerBytes + c .before .args .ring) (λ e. omega arith))

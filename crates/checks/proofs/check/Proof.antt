@@ -1,9 +1,9 @@
 use borrow.Author.Needs.{needs}
 use borrow.Author.Tests.{le-leb, eq-eqb, ne-eqb}
-use Rattle.attach.proofs.Tests.{passed, refused}
+use Rattle.checks.proofs.Tests.{passed, refused}
 use Rattle.layout.specs.Attach.{attachAnswer, attachChecks}
-use Rattle.attach.proofs.check.Statement.{statement}
-use Rattle.attach.proofs.check.Tie as tie
+use Rattle.checks.proofs.check.Statement.{statement}
+use Rattle.checks.proofs.check.Tie as tie
 
 returns : tie.Need-returns
 unfolding attachAnswer attachChecks
