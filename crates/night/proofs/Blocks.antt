@@ -10,7 +10,7 @@ use borrow.Rule.Slice.PartMut.{putMid}
 use Rattle.words.specs.Bytes.{part}
 use Rattle.types.specs.Answers.{toldOf}
 use Rattle.records.specs.Records.{recordBytes, kindIn, askedIn}
-use Rattle.records.proofs.Filled.{length-report}
+use Rattle.reports.proofs.Filled.{length-report}
 use Rattle.script.specs.Night.{Night, playedBy, bufferBy, after, reported, nights, reports}
 
 -- a record less to drop

@@ -108,6 +108,6 @@ pub fn feed(
     ensures counts { λ r. ⌜ (r .told ≡ recordBytes * wholeIn (take have (now (input .entry)))) × (r .left ≡ length (leftOf (take have (now (input .entry))))) ⌝ }
     ensures within { λ r. ⌜ (r .told ≤ blockBytes) × (r .left < recordBytes) × (length (now (input .exit)) ≡ blockBytes) × (length (now (out .exit)) ≡ blockBytes) ⌝ }
 {
-    let n = records::least(have, Block::BYTES);
+    let n = reports::least(have, Block::BYTES);
     feed_slices(region, b, payload, buffer, input, n, out)
 }

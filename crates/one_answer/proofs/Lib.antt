@@ -12,6 +12,7 @@ pub mod Next
 pub mod Night
 pub mod Opening
 pub mod Records
+pub mod Reports
 pub mod Runs
 pub mod Script
 pub mod Seats

@@ -42,7 +42,7 @@ fn tell(reports: &[u8]) -> bool {
 fn finish(left: usize) {
     let mut report = [0u8; 32];
     if left > 0 {
-        records::cut_report(&mut report);
+        reports::cut_report(&mut report);
         tell(&report);
     }
 }

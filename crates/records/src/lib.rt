@@ -1,13 +1,9 @@
-// The script program's records: what one asks, and how an answer is reported.
+// The script program's records: what one asks.
 ghost use mathlib.Core.Path.{_≡_};
-ghost use Prim.Native.Nat.{_≤_, min};
-ghost use lib.Dec.{eqb};
 ghost use lib.ListN.{length};
-ghost use Rattle.types.specs.Pick.{pick};
-ghost use Rattle.records.specs.Records.{recordBytes, payloadBytes, actionOf, sideOf, when, moveAsked, askedAt, askedIn, reportOf, cutReport};
+ghost use Rattle.records.specs.Records.{recordBytes, actionOf, sideOf, when, moveAsked, askedAt, askedIn};
 use types::Event;
 use types::Side;
-use types::Told;
 
 // Where the fields of a record lie, and of a report.
 pub struct Record {}
@@ -116,51 +112,4 @@ pub fn asked_in(given: &[u8]) -> Asked
     let length = words::load16(given, Record::LENGTH);
     let error = words::load16(given, Record::ERROR);
     asked_at(action_of(kind / 2), side_of(kind), mode, tag, length, error)
-}
-
-pub fn least(a: usize, b: usize) -> usize
-    ensures is { λ r. ⌜ r ≡ min a b ⌝ }
-    ensures within { λ r. ⌜ r ≤ b ⌝ }
-{
-    if a < b { a } else { b }
-}
-
-// As many bytes of a payload as a call names, and no more than there are.
-pub fn lent(n: u32) -> usize
-    ensures is { λ r. ⌜ r ≡ min n payloadBytes ⌝ }
-    ensures within { λ r. ⌜ r ≤ payloadBytes ⌝ }
-{
-    least(n as usize, Record::PAYLOAD_BYTES)
-}
-
-// How many bytes of a buffer a report shows: a delivered note's alone.
-fn shown(number: u8, length: u16) -> usize
-    ensures is { λ r. ⌜ r ≡ pick (eqb number 0) (min length payloadBytes) 0 ⌝ }
-    ensures within { λ r. ⌜ r ≤ payloadBytes ⌝ }
-{
-    let done = number == 0;
-    if done { lent(length as u32) } else { 0 }
-}
-
-pub fn report_of(kind: u8, t: Told, buffer: &[u8], out: &mut [u8])
-    requires { ⌜ (length (now buffer) ≡ payloadBytes) × (length (now out) ≡ recordBytes) ⌝ }
-    ensures { λ _. ⌜ now (out .exit) ≡ reportOf kind t (now (buffer .entry)) ⌝ }
-{
-    let n = shown(t.number, t.length);
-    runs::clear(out, Record::BYTES);
-    words::store8(out, Record::KIND, kind);
-    words::store8(out, 1, t.number);
-    words::store16(out, Record::TAG, t.tag);
-    words::store16(out, Record::LENGTH, t.length);
-    words::store16(out, Record::ERROR, t.error);
-    runs::copy_in(out, Record::PAYLOAD, &buffer[..n]);
-}
-
-// The report of a cut last record.
-pub fn cut_report(out: &mut [u8; 32])
-    ensures { λ _. ⌜ now (out .exit) ≡ cutReport ⌝ }
-{
-    runs::clear(out, Record::BYTES);
-    words::store8(out, Record::KIND, 0xFF);
-    words::store8(out, 1, 20);
 }

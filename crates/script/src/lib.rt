@@ -21,8 +21,8 @@ fn play_event(region: &mut [u8], b: Bench, e: Event, payload: &[u8], buffer: &mu
 {
     let sender = b.sender;
     let recorder = b.recorder;
-    let n = records::lent(sender.length);
-    let m = records::lent(recorder.length);
+    let n = reports::lent(sender.length);
+    let m = reports::lent(recorder.length);
     bench::play(region, b, e, &payload[..n], &mut buffer[..m])
 }
 
@@ -72,6 +72,6 @@ pub fn play_record(
     let told = answer.told();
     let kind = words::load8(given, Record::KIND);
     keep(payload, given, kind == 8, told.number == 254);
-    records::report_of(kind, told, buffer, out);
+    reports::report_of(kind, told, buffer, out);
     played.bench
 }

@@ -5,7 +5,7 @@ use Prim.Native.Nat.{ℕ}
 use native.Mathlib.Omega.{arith}
 use lib.ListN.{length, take}
 use lib.Seq.{length-take-le}
-use Rattle.records.proofs.Clamped.{lent-front}
+use Rattle.reports.proofs.Clamped.{lent-front}
 use Rattle.night.specs.Pieces.{blockBytes, leftOf}
 use Rattle.night.proofs.Piecewise.{left-short}
 use Rattle.night.proofs.feed.Statement.{statement}

@@ -1,8 +1,8 @@
 use borrow.Author.Needs.{needs}
 use native.Mathlib.Omega.{arith}
-use Rattle.records.proofs.Filled.{cut-stores}
-use Rattle.records.proofs.cut_report.Statement.{statement}
-use Rattle.records.proofs.cut_report.Tie as tie
+use Rattle.reports.proofs.Filled.{cut-stores}
+use Rattle.reports.proofs.cut_report.Statement.{statement}
+use Rattle.reports.proofs.cut_report.Tie as tie
 
 returns : tie.Need-returns
 returns c = rw (c .store82 .ensures, c .before .before .store8 .ensures, c .before .before .before .before .clear .ensures) (cut-stores (c .before .before .before .before .before .before .args .out .now) (search needs))

@@ -13,8 +13,8 @@ use Rattle.words.proofs.Sets.{sets-append, sets-front}
 use Rattle.words.proofs.Laws.{length-leBytes}
 use Rattle.types.specs.Pick.{pick}
 use Rattle.types.specs.declared.Told.{Told}
 use Rattle.records.specs.Records.{recordBytes, payloadBytes, shown, filled, reportOf, cutReport}
-use Rattle.records.proofs.Clamped.{lent-front}
+use Rattle.reports.proofs.Clamped.{lent-front}
 
 -- more zeros than are asked for
 zeros-more : (s : List ℕ) (n k : ℕ) → take n (s ++ replicate (n + k) 0) ≡ filled s n

@@ -1,6 +1,6 @@
 use borrow.Author.Needs.{needs}
-use Rattle.records.proofs.shown.Statement.{statement}
-use Rattle.records.proofs.shown.Tie as tie
+use Rattle.reports.proofs.shown.Statement.{statement}
+use Rattle.reports.proofs.shown.Tie as tie
 
 returns : tie.Need-returns
 returns c = (rw (c .before .if1 .taken) (c .lent .ensures .0), c .lent .ensures .1)
