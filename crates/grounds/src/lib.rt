@@ -135,7 +135,7 @@ fn same_bell(a: Bell, b: Bell) -> bool
 fn hears(side: Side, w: Woke) -> bool
     ensures { λ r. ⌜ r ≡ hears side w ⌝ }
 {
-    let place = looks::sleep_bell(side);
+    let place = sides::sleep_bell(side);
     match w {
         Woke::Nobody => false,
         Woke::SleeperOn(bell) => same_bell(bell, place),

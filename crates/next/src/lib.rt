@@ -28,9 +28,9 @@ pub fn slot_access(side: Side, counter: u64) -> Access
 pub fn next_at(step: Step, side: Side, counter: u64) -> Access
     ensures { λ r. ⌜ r ≡ nextAt step side counter ⌝ }
 {
-    let them = looks::other(side);
-    let ring = looks::ring_bell(side);
-    let sleep = looks::sleep_bell(side);
+    let them = sides::other(side);
+    let ring = sides::ring_bell(side);
+    let sleep = sides::sleep_bell(side);
     let advanced = words::next64(counter);
     match step {
         Step::Rest => Access::None,

@@ -16,6 +16,7 @@ pub mod Reports
 pub mod Runs
 pub mod Script
 pub mod Seats
+pub mod Sides
 pub mod Sizes
 pub mod Slots
 pub mod Sound

@@ -51,7 +51,7 @@ pub fn turned(b: Bench, side: Side, t: Turned) -> Played
     let party = t.party;
     let answer = t.answer;
     let woke = t.woke;
-    let them = looks::other(side);
+    let them = sides::other(side);
     let sleeper = party_of(b, them);
     let heard = grounds::wakened(them, sleeper, woke);
     let moved = seat(b, side, party);

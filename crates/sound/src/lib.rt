@@ -57,7 +57,7 @@ pub fn sound(side: Side, p: Party) -> bool
 {
     let own = p.own;
     let whose = own.side;
-    let same = looks::same_side(side, whose);
+    let same = sides::same_side(side, whose);
     let power = sizes::power_ok(own.power);
     let slot = sizes::slot_ok(own.slot);
     let length = length_ok(side, p.length, own.slot);

@@ -39,7 +39,7 @@ fn goes_or_ends(goes: bool, onward: Step, answer: Answer) -> Move
 pub fn stuck_move(blocking: bool, side: Side) -> Move
     ensures { λ r. ⌜ r ≡ stuckMove blocking side ⌝ }
 {
-    let answer = looks::stuck_answer(side);
+    let answer = sides::stuck_answer(side);
     goes_or_ends(blocking, Step::Gate, answer)
 }
 
@@ -93,7 +93,7 @@ pub fn publish_move(own: Own, length: u16, tag: u16) -> Move
     ensures { λ r. ⌜ r ≡ publishMove own length tag ⌝ }
 {
     let side = own.side;
-    let rings = looks::rings(side, own.notfull);
+    let rings = sides::rings(side, own.notfull);
     goes_or_ends(rings, Step::Check(length, tag), Answer::Done(length, tag))
 }
 
@@ -124,8 +124,8 @@ pub fn wake_move(own: Own, error: u16, length: u16, tag: u16) -> Move
     ensures { λ r. ⌜ r ≡ wakeMove own error length tag ⌝ }
 {
     let side = own.side;
-    let bell = looks::ring_bell(side);
-    let operation = looks::wake_op(bell);
+    let bell = sides::ring_bell(side);
+    let operation = sides::wake_op(bell);
     let answer = unless_failed(error, operation, Answer::Done(length, tag));
     Move::End(answer)
 }
@@ -178,8 +178,8 @@ pub fn wait_move(own: Own, word: u64, error: u16, epoch: u32) -> Move
     let side = own.side;
     let same = word == (epoch as u64);
     let nap = looks::nap_of(error, same);
-    let bell = looks::sleep_bell(side);
-    let operation = looks::wait_op(bell);
+    let bell = sides::sleep_bell(side);
+    let operation = sides::wait_op(bell);
     nap_move(nap, operation, error)
 }
 
@@ -188,7 +188,7 @@ pub fn close_move(own: Own) -> Move
     ensures { λ r. ⌜ r ≡ closeMove own ⌝ }
 {
     let side = own.side;
-    let rings = looks::rings(side, own.notfull);
+    let rings = sides::rings(side, own.notfull);
     goes_or_ends(rings, Step::CloseRaise, Answer::Done(0, 0))
 }
 
@@ -196,8 +196,8 @@ pub fn close_move(own: Own) -> Move
 pub fn shut_move(corrupt: bool, first: u16, error: u16) -> Move
     ensures { λ r. ⌜ r ≡ shutMove corrupt first error ⌝ }
 {
-    let earlier = looks::wake_op(Bell::NotEmpty);
-    let later = looks::wake_op(Bell::NotFull);
+    let earlier = sides::wake_op(Bell::NotEmpty);
+    let later = sides::wake_op(Bell::NotFull);
     let last = unless_failed(error, later, Answer::Done(0, 0));
     let answer = unless_failed(first, earlier, last);
     if corrupt {

@@ -1,9 +1,9 @@
 use borrow.Author.Needs.{needs}
-use Rattle.looks.proofs.limit.Statement.{statement}
-use Rattle.looks.proofs.limit.Tie as tie
+use Rattle.sides.proofs.ring_bell.Statement.{statement}
+use Rattle.sides.proofs.ring_bell.Tie as tie
 
-pub limit-spec : {M : Type 1} → statement M
-limit-spec =
+pub ring-bell-spec : {M : Type 1} → statement M
+ring-bell-spec =
     tie.close
     (tie.spec
     (λ c. search needs)

@@ -1,6 +1,6 @@
 use borrow.Author.Needs.{needs}
-use Rattle.looks.proofs.used.Statement.{statement}
-use Rattle.looks.proofs.used.Tie as tie
+use Rattle.sides.proofs.used.Statement.{statement}
+use Rattle.sides.proofs.used.Tie as tie
 
 returns : tie.Need-returns
 returns c = rw (c .before .enum-told .given .1) (c .ahead64 .ensures)
