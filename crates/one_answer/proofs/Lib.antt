@@ -24,5 +24,6 @@ pub mod Steps
 pub mod Take
 pub mod Turns
 pub mod Types
+pub mod Waits
 pub mod Words
 pub mod Both

@@ -6,6 +6,9 @@ use Rattle.steps.proofs as code
 pub room-move : OneAnswer code.room_move.Kinds.ps code.room_move.Kinds.r code.room_move.Reads.Post
 room-move κs a z z′ ws ws′ p q = (p ∙ sym q, refl)
 
+pub goes-or-ends : OneAnswer code.goes_or_ends.Kinds.ps code.goes_or_ends.Kinds.r code.goes_or_ends.Reads.Post
+goes-or-ends κs a z z′ ws ws′ p q = (p ∙ sym q, refl)
+
 pub stuck-move : OneAnswer code.stuck_move.Kinds.ps code.stuck_move.Kinds.r code.stuck_move.Reads.Post
 stuck-move κs a z z′ ws ws′ p q = (p ∙ sym q, refl)
 
@@ -32,24 +35,3 @@ unless-failed κs a z z′ ws ws′ p q = (p ∙ sym q, refl)
 
 pub wake-move : OneAnswer code.wake_move.Kinds.ps code.wake_move.Kinds.r code.wake_move.Reads.Post
 wake-move κs a z z′ ws ws′ p q = (p ∙ sym q, refl)
-
-pub door-move : OneAnswer code.door_move.Kinds.ps code.door_move.Kinds.r code.door_move.Reads.Post
-door-move κs a z z′ ws ws′ p q = (p ∙ sym q, refl)
-
-pub gate-move : OneAnswer code.gate_move.Kinds.ps code.gate_move.Kinds.r code.gate_move.Reads.Post
-gate-move κs a z z′ ws ws′ p q = (p ∙ sym q, refl)
-
-pub again-move : OneAnswer code.again_move.Kinds.ps code.again_move.Kinds.r code.again_move.Reads.Post
-again-move κs a z z′ ws ws′ p q = (p ∙ sym q, refl)
-
-pub nap-move : OneAnswer code.nap_move.Kinds.ps code.nap_move.Kinds.r code.nap_move.Reads.Post
-nap-move κs a z z′ ws ws′ p q = (p ∙ sym q, refl)
-
-pub wait-move : OneAnswer code.wait_move.Kinds.ps code.wait_move.Kinds.r code.wait_move.Reads.Post
-wait-move κs a z z′ ws ws′ p q = (p ∙ sym q, refl)
-
-pub close-move : OneAnswer code.close_move.Kinds.ps code.close_move.Kinds.r code.close_move.Reads.Post
-close-move κs a z z′ ws ws′ p q = (p ∙ sym q, refl)
-
-pub shut-move : OneAnswer code.shut_move.Kinds.ps code.shut_move.Kinds.r code.shut_move.Reads.Post
-shut-move κs a z z′ ws ws′ p q = (p ∙ sym q, refl)

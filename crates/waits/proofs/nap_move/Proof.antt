@@ -1,6 +1,6 @@
 use borrow.Author.Needs.{needs}
-use Rattle.steps.proofs.nap_move.Statement.{statement}
-use Rattle.steps.proofs.nap_move.Tie as tie
+use Rattle.waits.proofs.nap_move.Statement.{statement}
+use Rattle.waits.proofs.nap_move.Tie as tie
 
 pub nap-move-spec : {M : Type 1} → statement M
 nap-move-spec =

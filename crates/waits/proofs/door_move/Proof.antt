@@ -1,6 +1,6 @@
 use borrow.Author.Needs.{needs}
-use Rattle.steps.proofs.door_move.Statement.{statement}
-use Rattle.steps.proofs.door_move.Tie as tie
+use Rattle.waits.proofs.door_move.Statement.{statement}
+use Rattle.waits.proofs.door_move.Tie as tie
 
 pub door-move-spec : {M : Type 1} → statement M
 door-move-spec =
