@@ -5,7 +5,7 @@ use crate::sums::mix_bytes;
 use crate::sums::mix_party;
 ghost use Prim.Native.Nat.{_≤_};
 ghost use Rattle.io.specs.Counts.{Counts};
-use records::least;
+use reports::least;
 use types::Answer;
 use types::Bench;
 use types::Event;
