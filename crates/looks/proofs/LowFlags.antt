@@ -1,8 +1,7 @@
 -- A mark's bit lies in the lowest 32 bits of a number.
-use mathlib.Core.Path.{_≡_, ap}
+use mathlib.Core.Path.{_≡_}
 use Prim.Native.Nat.{ℕ, _/_, _%_, _^_}
 use native.Mathlib.Omega.{arith}
-use lib.Dec.{eqb}
 use Rattle.types.specs.declared.Mark.{Mark}
 use Rattle.types.specs.declared.Mark.the-variants.{SenderAttached, RecorderAttached, SenderClosed, RecorderClosed, Shutdown}
 use Rattle.layout.specs.Flags.{worth, bitOn}

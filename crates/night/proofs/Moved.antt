@@ -1,17 +1,17 @@
 -- What is left of a piece moves to the input's start.
-use mathlib.Core.Path.{_≡_, refl, sym, ap, _∙_}
+use mathlib.Core.Path.{_≡_, sym, _∙_}
 use mathlib.Core.Logic.{inr}
-use mathlib.Core.List.{List, [], _++_, append-nil}
+use mathlib.Core.List.{List}
 use Prim.Native.Nat.{ℕ, _+_, _-_, _*_, _/_, _≤_, _<_}
 use native.Mathlib.Omega.{arith}
-use native.Mathlib.Nat.{zero-add, le-of-lt}
-use lib.ListN.{length, getD, take, drop, set, drop-of-length-le}
+use native.Mathlib.Nat.{zero-add}
+use lib.ListN.{length, getD, take, drop, set}
 use lib.Seq.{sets, length-take-le, take-add, drop-at}
 use Rattle.words.specs.Bytes.{part}
 use Rattle.words.proofs.Sets.{sets-other, length-part, getD-part}
 use Rattle.runs.proofs.Turns.{sets-more}
-use Rattle.records.specs.Records.{recordBytes, payloadBytes, payloadIn}
-use Rattle.night.specs.Pieces.{wholeIn, leftOf}
+use Rattle.records.specs.Records.{recordBytes}
+use Rattle.night.specs.Pieces.{leftOf}
 
 -- one byte more of a move to the start: what is read was not written yet
 pub moved-more : (s : List ℕ) (at n k : ℕ) → at + n ≤ length s → k < n

@@ -1,15 +1,15 @@
 -- A script that comes in pieces, cut anywhere, is reported as the whole of it is.
-use mathlib.Core.Path.{_≡_, refl, sym, ap, ap₂, _∙_}
+use mathlib.Core.Path.{_≡_, sym}
 use mathlib.Core.List.{List, [], _∷_, _++_, append-assoc, append-nil}
-use Prim.Native.Nat.{ℕ, zero, suc, _+_, _-_, _*_, _/_, _%_, _≤_, _<_}
+use Prim.Native.Nat.{ℕ, _+_, _-_, _*_, _%_, _≤_, _<_}
 use native.Mathlib.Omega.{arith}
 use lib.Dec.{eqb}
-use lib.ListN.{length, take, drop, length-drop, length-append}
+use lib.ListN.{length, drop, length-drop, length-append}
 use lib.Seq.{drop-append-le}
 use Rattle.types.specs.Pick.{pick}
 use Rattle.records.specs.Records.{recordBytes, cutReport}
 use Rattle.script.specs.Night.{Night, start, nights, reports, report}
-use Rattle.night.specs.Pieces.{wholeIn, leftOf, ending, inPieces, joined}
+use Rattle.night.specs.Pieces.{wholeIn, leftOf, inPieces, joined}
 use Rattle.night.proofs.Blocks.{nights-front, reports-add, reports-front}
 
 -- the report of a script from a night on

@@ -6,7 +6,7 @@ use lib.Dec.{eqb}
 use lib.ListN.{length, drop}
 use Rattle.types.specs.Pick.{pick}
 use Rattle.records.specs.Records.{recordBytes, cutReport}
-use Rattle.script.specs.Night.{Night, start, nights, reports}
+use Rattle.script.specs.Night.{Night, nights, reports}
 
 -- a piece is at most as long as this
 abbrev pub blockBytes : ℕ

@@ -1,5 +1,5 @@
 -- One answer: crate `bench`.
-use mathlib.Core.Path.{refl, sym, _∙_}
+use mathlib.Core.Path.{sym, _∙_}
 use Rattle.one_answer.specs.OneAnswer.{OneAnswer}
 use Rattle.one_answer.proofs.Both.{both}
 use Rattle.bench.proofs as code

@@ -1,5 +1,5 @@
 -- The region that a script is played on: created, and joined by both sides.
-use mathlib.Core.Path.{_≡_, refl, ap, _∙_}
+use mathlib.Core.Path.{_≡_, refl}
 use mathlib.Core.Bool.{true}
 use mathlib.Core.List.{List, [], append-nil}
 use Prim.Native.Nat.{ℕ}
@@ -13,7 +13,7 @@ use Rattle.layout.specs.Limits.{powerOk, slotOk, capacity, ringBytes, totalByte
 use Rattle.layout.specs.Create.{createAnswer, createLeaves}
 use Rattle.layout.specs.Attach.{attachReply, attachLeaves}
 use Rattle.records.specs.Records.{payloadBytes}
-use Rattle.script.specs.Night.{Night, nightOf, power, slot, madeRegion, senderIn, start}
+use Rattle.script.specs.Night.{nightOf, power, slot, madeRegion, start}
 
 -- zeros all over
 pub wiped : (s : List ℕ) → sets s 0 (replicate (length s) 0) ≡ replicate (length s) 0

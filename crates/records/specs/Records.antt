@@ -1,19 +1,17 @@
 -- The script program's records: what one asks, and how an answer is reported.
-use mathlib.Core.Bool.{Bool, true, false, _&&_}
+use mathlib.Core.Bool.{Bool, _&&_}
 use mathlib.Core.List.{List, [], _∷_, _++_}
-use Prim.Native.Nat.{ℕ, _+_, _-_, _/_, _%_}
+use Prim.Native.Nat.{ℕ, _+_, _/_, _%_}
 use lib.Dec.{leb, eqb}
-use lib.ListN.{getD, take, replicate}
+use lib.ListN.{take, replicate}
 use Rattle.words.specs.Bytes.{part}
 use Rattle.words.specs.Le.{leAt, leBytes}
 use Rattle.types.specs.Pick.{pick}
-use Rattle.types.specs.Answers.{toldOf}
 use Rattle.types.specs.declared.Side.{Side}
 use Rattle.types.specs.declared.Side.the-variants.{Sender, Recorder}
 use Rattle.types.specs.declared.Told.{Told}
 use Rattle.types.specs.declared.Event.{Event}
 use Rattle.types.specs.declared.Event.the-variants.{Turn, Failing, Spurious, TimeOut, Push, Pop, Close, Shutdown}
-use Rattle.types.specs.declared.Answer.{Answer}
 use Rattle.records.specs.declared.Action.{Action}
 use Rattle.records.specs.declared.Action.the-variants.{Turn as Turns, Spurious as Returns, TimeOut as Expires, Failing as Fails, Move, Close as Closes, Shutdown as Shuts, Unknown}
 use Rattle.records.specs.declared.Asked.{Asked}

@@ -26,7 +26,7 @@ use Rattle.rules.specs.Calls.{isSleeping, sound, ready, reply, at, named
 use Rattle.rules.specs.Bench.{settled, played, playedLeaves}
 use Rattle.rules.specs.Run.{Note, World, Happening, attaches, plays, partyIn, takes, happens, run, begin, rungOf}
 use Rattle.rules.specs.Premises.{Typed, AllTyped, Fair, AllFair, FairTurn}
-use Rattle.rules.specs.Stretch.{beat, beats, Wills, Willing, inCall, notesOf, calling, countsBy, Big}
+use Rattle.rules.specs.Stretch.{calling, tickBy, beats, Wills, Willing, inCall, notesOf, countsBy, Big}
 use Rattle.rules.specs.Claims.{Fresh, reached, Bounded}
 use Rattle.rules.specs.Phase.{phase}
 use Rattle.rules.proofs.Leads.{stopAt}
@@ -143,7 +143,7 @@ module _ (P S v : ℕ) (on : Bool) where
     no-tick notes n side w go = let e : 0 + n ≡ n = omega arith in subst (λ (m : ℕ). Going P S v on side notes m w) e go
 
     going-happens : (side : Side) (h : Happening) (w : World) → Typed h → Fair side h w → Wills side h w → Real P S v on w → Ready P S v on side w → (notes : List Note) (n : ℕ)
-        → Going P S v on side notes (beat h w + n) w → Going P S v on side notes n (happens h w)
+        → Going P S v on side notes (tickBy calling h w + n) w → Going P S v on side notes n (happens h w)
     unfolding happens played playedLeaves settled
     going-happens side (attaches other) w t f m real y notes n go = absurd m
     going-happens side (plays (Turn mover) i o) w t f m real y notes n go = turned w real side mover i o Fine (m .0) (m .1) f y notes n go
@@ -164,7 +164,7 @@ module _ (P S v : ℕ) (on : Bool) where
     unfolding run
     going-run side [] w t f m real y notes n go = no-tick notes n side w go
     going-run side (h ∷ hs) w t f m real y notes n go =
-        let e : beat h w + beats hs (happens h w) + n ≡ beat h w + (beats hs (happens h w) + n) = omega arith in
+        let e : tickBy calling h w + beats hs (happens h w) + n ≡ tickBy calling h w + (beats hs (happens h w) + n) = omega arith in
         going-run side hs (happens h w) (t .1) (f .1) (m .1) (real-happens P S v on power-ok slot-ok h w (t .0) real) (ready-happens P S v on power-ok slot-ok side h w (t .0) (f .0) real y) notes n
         (going-happens side h w (t .0) (f .0) (m .0) real y notes (beats hs (happens h w) + n) (subst (λ (u : ℕ). Going P S v on side notes u w) e go))
 

@@ -23,7 +23,7 @@ use Rattle.rules.specs.Next.{nextAt, nextSpec}
 use Rattle.rules.specs.Access.{valueOf, bufferOf}
 use Rattle.rules.specs.Bench.{settled, played, playedLeaves}
 use Rattle.rules.specs.Run.{World, Happening, attaches, plays, partyIn, takes, happens, run, begin}
-use Rattle.rules.specs.Stretch.{moves, counts, ticks, inWait, Turns}
+use Rattle.rules.specs.Stretch.{moves, countsBy, ticks, inWait, Turns}
 use Rattle.rules.specs.Claims.{Fresh, reached, Sleeps}
 use Rattle.rules.proofs.After.{bell-after}
 use Rattle.rules.proofs.Kept.{header-in}
@@ -123,7 +123,7 @@ module _ (P S v : ℕ) (on : Bool) (power-ok : powerOk P ≡ true) (slot-ok : sl
       by (suc x) e = omega arith
 
   one-turn : (side : Side) (w : World) (n : ℕ) → Drowsy side n w → (payload lent : List ℕ) → moves (stanceOf (partyIn w side .step)) ≡ true
-      → Drowsy side (n - counts w side payload lent Fine) (turnWorld w side payload lent Fine) × (counts w side payload lent Fine ≤ n)
+      → Drowsy side (n - countsBy moves w side payload lent Fine) (turnWorld w side payload lent Fine) × (countsBy moves w side payload lent Fine ≤ n)
   one-turn side w n d payload lent move = by (takes w side payload lent Fine) refl
     where
       by : (b : Bool) → takes w side payload lent Fine ≡ b
@@ -150,7 +150,7 @@ module _ (P S v : ℕ) (on : Bool) (power-ok : powerOk P ≡ true) (slot-ok : sl
       (λ l. by (partyIn w side .step) refl (kind (partyIn w side .step))
       (λ move.
       let one = one-turn side w n d i o move in
-      let more = sleeping-run side ms (happens (plays (Turn side) i o) w) (m .1) (n - counts w side i o Fine) (one .0) (omega (arith, one .1)) in
+      let more = sleeping-run side ms (happens (plays (Turn side) i o) w) (m .1) (n - countsBy moves w side i o Fine) (one .0) (omega (arith, one .1)) in
       (plays (Turn side) i o ∷ more .0, (more .1 .0, (ap (λ (u : List Happening). plays (Turn side) i o ∷ u) (more .1 .1 .0), (omega (arith, more .1 .1 .1 .0, one .1), more .1 .1 .1 .1))))))
       l
     where

@@ -32,7 +32,7 @@ use Rattle.rules.specs.Calls.{pushSpec, popSpec, closeSpec, shutSpec, sp
 use Rattle.rules.specs.Bench.{settled, played, playedLeaves}
 use Rattle.rules.specs.Run.{World, Happening, attaches, plays, partyIn, takes, happens, run, begin, rungOf}
 use Rattle.rules.specs.Premises.{Typed, AllTyped, Fair, AllFair, FairTurn}
-use Rattle.rules.specs.Stretch.{calling, countsBy, beat, beats, Does, AllOwn}
+use Rattle.rules.specs.Stretch.{calling, countsBy, tickBy, beats, Does, AllOwn}
 use Rattle.rules.specs.Claims.{Fresh, reached, Ends}
 use Rattle.rules.proofs.After.{flagsBy}
 use Rattle.rules.proofs.Leads.{stopAt, Leads}
@@ -158,7 +158,7 @@ module _ (P S v : ℕ) (on : Bool) where
         (sym e) (λ f. turned-ends w real side payload lent fault y n d i (kind (partyIn w side .step)) (λ g. own-timely side fault w (f g))) f
 
     ending-happens : (side : Side) (h : Happening) (w : World) → Typed h → Fair side h w → Does side h → Real P S v on w → Ready P S v on side w → (n : ℕ) → Ending side n w → (partyIn w side .step ≡ Rest → ⊥)
-        → Then side n (beat h w) (happens h w)
+        → Then side n (tickBy calling h w) (happens h w)
     unfolding happens played playedLeaves settled
     ending-happens side (attaches mover) w t f m real y n d i = absurd m
     ending-happens side (plays (Turn mover) b o) w t f m real y n d i = turned w real side mover b o Fine m f y n d i
@@ -183,7 +183,7 @@ module _ (P S v : ℕ) (on : Bool) where
         by (partyIn w side .step) refl (kind (partyIn w side .step))
         (λ i.
         let one = ending-happens side h w (t .0) (f .0) (m .0) real y n d i in
-        let more = ending-run side ms (happens h w) (t .1) (f .1) (m .1) (real-happens P S v on power-ok slot-ok h w (t .0) real) (ready-happens P S v on power-ok slot-ok side h w (t .0) (f .0) real y) (n - beat h w) (one .0)
+        let more = ending-run side ms (happens h w) (t .1) (f .1) (m .1) (real-happens P S v on power-ok slot-ok h w (t .0) real) (ready-happens P S v on power-ok slot-ok side h w (t .0) (f .0) real y) (n - tickBy calling h w) (one .0)
         (omega (arith, one .1)) in
         (h ∷ more .0, (more .1 .0, (ap (λ (u : List Happening). h ∷ u) (more .1 .1 .0), (omega (arith, more .1 .1 .1 .0, one .1), more .1 .1 .1 .1)))))
       where

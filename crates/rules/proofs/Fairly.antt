@@ -37,7 +37,7 @@ use Rattle.rules.proofs.Leads.{stopAt}
 use Rattle.rules.proofs.Taken.{turnWorld, turn-refused}
 use Rattle.rules.proofs.RealTurn.{access-is, turn-is-after}
 use Rattle.rules.proofs.RealAttach.{bit-clear, attach-flags, attachWorld}
-use Rattle.rules.proofs.Effects.{heard-by}
+use Rattle.rules.proofs.Woken.{heard-by}
 use Rattle.rules.proofs.RealCalls.{Idle, rests, looks, closes, shuts, Changed, seat-same, seat-one, seat-two, seated, push-changes, pop-changes, close-changes, shut-changes, spurious-changes, timeout-changes}
 use Rattle.rules.proofs.RealRun.{real-happens}
 use Rattle.rules.proofs.Heard.{Cause, Duty, none, duty, Good, wakesAt}

@@ -24,6 +24,7 @@ pub mod Own
 pub mod Costs
 pub mod Nearer
 pub mod Effects
+pub mod Woken
 pub mod Listening
 pub mod Fairly
 pub mod Causes

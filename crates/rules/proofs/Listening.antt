@@ -38,7 +38,8 @@ use Rattle.rules.proofs.Heard.{duty, Good, risen, rungBy, roomBy, wakes
 use Rattle.rules.proofs.Own.{waitsOn, own, Tries, tries}
 use Rattle.rules.proofs.Rings.{owing, pays, holds-on}
 use Rattle.rules.proofs.Costs.{ownRoom}
-use Rattle.rules.proofs.Effects.{rung-other, rung-own, room-own-is, room-other-is, flags-still, waits-still, woken-phase}
+use Rattle.rules.proofs.Effects.{rung-other, rung-own, room-own-is, room-other-is, flags-still, waits-still}
+use Rattle.rules.proofs.Woken.{woken-phase}
 use Rattle.rules.proofs.Real.{roomIn, Since, Real}
 
 -- heard: the other rings. The waiter, and then the other

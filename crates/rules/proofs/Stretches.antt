@@ -26,7 +26,7 @@ use Rattle.rules.specs.Calls.{sound, ready, at, named, pushSpec, popSpec
 use Rattle.rules.specs.Bench.{settled, played, playedLeaves}
 use Rattle.rules.specs.Run.{Note, Trace, World, Happening, plays, partyIn, takes, traced, happens, run, begin, rungOf}
 use Rattle.rules.specs.Premises.{Typed, AllTyped, Fair, AllFair}
-use Rattle.rules.specs.Stretch.{moves, tick, ticks, Wills, Willing, beforeCopy, holdsEpoch}
+use Rattle.rules.specs.Stretch.{moves, tickBy, ticks, Wills, Willing, beforeCopy, holdsEpoch}
 use Rattle.rules.specs.Claims.{Fresh, reached, Lasts}
 use Rattle.rules.specs.Phase.{phase}
 use Rattle.rules.proofs.Leads.{stopAt, Leads}
@@ -60,7 +60,7 @@ module _ (P S v : ℕ) (on : Bool) (power-ok : powerOk P ≡ true) (slot-ok : sl
     typed : Typed h
     fair : Fair side h w
     wills : Wills side h w
-    count : tick h w ≡ n
+    count : tickBy moves h w ≡ n
     able : Able side (happens h w)
 
   module _ (side : Side) (w : World) (a : Able side w) where
@@ -210,7 +210,7 @@ module _ (P S v : ℕ) (on : Bool) (power-ok : powerOk P ≡ true) (slot-ok : sl
   ask-wills Sender w = refl
   ask-wills Recorder w = refl
 
-  ask-count : (side : Side) (w : World) → tick (ask side) w ≡ 0
+  ask-count : (side : Side) (w : World) → tickBy moves (ask side) w ≡ 0
   ask-count Sender w = refl
   ask-count Recorder w = refl
 

@@ -58,19 +58,10 @@ module _ (counted : Stance → Bool) where
   ticksBy (h ∷ hs) w = tickBy h w + ticksBy hs (happens h w)
 
 -- document 01's turns
-abbrev pub counts : World → Side → (payload lent : List ℕ) → Fault → ℕ
-counts = countsBy moves
-
-abbrev pub tick : Happening → World → ℕ
-tick = tickBy moves
-
 abbrev pub ticks : List Happening → World → ℕ
 ticks = ticksBy moves
 
 -- a party's turns in a call, asleep or not
-abbrev pub beat : Happening → World → ℕ
-beat = tickBy calling
-
 abbrev pub beats : List Happening → World → ℕ
 beats = ticksBy calling
 

@@ -1,16 +1,15 @@
 -- The whole report of a whole script.
-use mathlib.Core.Bool.{Bool, true, false, _&&_}
+use mathlib.Core.Bool.{true, _&&_}
 use mathlib.Core.List.{List, [], _++_}
 use Prim.Native.Nat.{ℕ, zero, suc, _/_, _%_}
 use lib.Dec.{eqb}
 use lib.ListN.{length, take, drop, replicate}
-use lib.Seq.{sets}
 use Rattle.types.specs.Pick.{pick}
 use Rattle.types.specs.Answers.{toldOf, number}
 use Rattle.types.specs.declared.Side.the-variants.{Sender, Recorder}
 use Rattle.types.specs.declared.Bench.{Bench}
 use Rattle.types.specs.declared.Played.{Played}
-use Rattle.types.specs.declared.Answer.the-variants.{BadCall, Begun}
+use Rattle.types.specs.declared.Answer.the-variants.{BadCall}
 use Rattle.layout.specs.Limits.{totalBytes}
 use Rattle.layout.specs.Create.{created}
 use Rattle.layout.specs.Attach.{attachReply, attachLeaves}

@@ -1,12 +1,10 @@
 use borrow.Author.Needs.{needs}
-use mathlib.Core.Path.{_≡_, ap, _∙_}
-use mathlib.Core.List.{List}
-use Prim.Native.Nat.{ℕ}
+use mathlib.Core.Path.{_≡_}
 use native.Mathlib.Omega.{arith}
 use lib.ListN.{length, take}
 use lib.Seq.{length-take-le}
 use Rattle.reports.proofs.Clamped.{lent-front}
-use Rattle.night.specs.Pieces.{blockBytes, leftOf}
+use Rattle.night.specs.Pieces.{blockBytes}
 use Rattle.night.proofs.Piecewise.{left-short}
 use Rattle.night.proofs.feed.Statement.{statement}
 use Rattle.night.proofs.feed.Tie as tie

@@ -1,5 +1,4 @@
 use borrow.Author.Needs.{needs}
-use native.Mathlib.Omega.{arith}
 use Rattle.reports.proofs.Filled.{cut-stores}
 use Rattle.reports.proofs.cut_report.Statement.{statement}
 use Rattle.reports.proofs.cut_report.Tie as tie
