@@ -2,7 +2,7 @@
 use mathlib.Core.Path.{_≡_, refl, sym, ap, _∙_, subst}
 use mathlib.Core.Bool.{Bool, true, false, _&&_}
 use mathlib.Core.List.{List}
-use Prim.Native.Nat.{ℕ, zero, suc, _+_, _-_, _^_, _<_, _≤_}
+use Prim.Native.Nat.{ℕ, zero, suc, _+_, _-_, _<_, _≤_}
 use native.Mathlib.Omega.{arith}
 use lib.ListN.{length}
 use Rattle.words.specs.Le.{leAt}
@@ -18,27 +18,25 @@ use Rattle.types.specs.declared.Stance.{Stance}
 use Rattle.types.specs.declared.Stance.the-variants.{Resting, Sleeping, Copying, Publishing, Closing, Moving}
 use Rattle.types.specs.declared.Access.{Access}
 use Rattle.layout.specs.Limits.{powerOk, slotOk}
-use Rattle.layout.specs.Header.{flagsAt, bellAt}
-use Rattle.rules.specs.Sides.{other, rings, sleepBell}
+use Rattle.layout.specs.Header.{flagsAt}
+use Rattle.rules.specs.Sides.{other}
 use Rattle.rules.specs.Take.{stanceOf, stepAfter, moveAt, moveOf}
 use Rattle.rules.specs.Next.{nextAt, nextSpec}
 use Rattle.rules.specs.Access.{valueOf, bufferOf}
 use Rattle.rules.specs.Turn.{errorOf}
-use Rattle.rules.specs.Run.{Note, Trace, World, partyIn, takes, traced, rungOf}
+use Rattle.rules.specs.Run.{Note, Trace, World, partyIn, takes, traced}
 use Rattle.rules.specs.Stretch.{moves, calling, countsBy, Big, notesOf}
-use Rattle.rules.specs.Phase.{waits, phase}
+use Rattle.rules.specs.Phase.{phase}
 use Rattle.rules.proofs.Leads.{stopAt, Leads}
 use Rattle.rules.proofs.Does.{Does, does, nothing, looks, flags, reads, writes, takes as read, stores, raises, closes, shuts, waits as wait, wakes}
 use Rattle.rules.proofs.Taken.{turnWorld, turn-refused}
 use Rattle.rules.proofs.RealTurn.{own-is, counter-is, access-is, next-step, leads-here, after-turn, turn-is-after}
 use Rattle.rules.proofs.Heard.{Cause, none, duty, roomBy}
-use Rattle.rules.proofs.Own.{Tries}
 use Rattle.rules.proofs.Costs.{cost, Calls, ownRoom, fall, calls-on}
 use Rattle.rules.proofs.Effects.{room-own-is, room-other-is}
-use Rattle.rules.proofs.Listening.{ReadyAt, unrung, duty-kept, mover-is, waiter-is, trace-is}
-use Rattle.rules.proofs.Fairly.{Ready, dozes}
+use Rattle.rules.proofs.Listening.{duty-kept, mover-is, waiter-is, trace-is}
 use Rattle.rules.proofs.Fits.{no-spill}
-use Rattle.rules.proofs.Real.{roomIn, Since, HasRoom, Real}
+use Rattle.rules.proofs.Real.{roomIn, HasRoom, Real}
 
 -- the two steps that no turn leads on from, and the others
 pub data Kind : Step → Type 0 where
@@ -109,15 +107,32 @@ own-room-none (ShutWakeNf c e) = refl
 cost-zero : (s next : Step) (x : ℕ) → cost next (ownRoom s 0) x ≡ 0
 cost-zero s next x = ap (λ (k : ℕ). cost next k x) (own-room-none s)
 
--- one turn: by the room, and by whether it counts
-turn-cost : (k x : ℕ) (z m r : Bool) (b n : ℕ) (s next : Step) → Leads k x z m r b s next → Kind s → Calls (phase s) → (s ≡ Rest → next ≡ Rest) → (0 < k → s ≡ Asleep → ⊥) → (0 < k → s ≡ Copy → next ≡ Rest → ⊥)
-    → (0 < k → (e : ℕ) → s ≡ Wait e → b ≡ e → ⊥) → cost s k x ≤ pick (calling (stanceOf s)) 1 0 + n → cost next (ownRoom s k) (roomBy s x) ≤ n
-turn-cost zero x z m r b n s next leads kind c i j f d h = omega (arith, cost-zero s next (roomBy s x))
-turn-cost (suc k) x z m r b n s next leads rests c i j f d h = rw (i refl) (omega arith)
-turn-cost (suc k) x z m r b n s next leads dreams c i j f d h = absurd (j (omega arith) refl)
-turn-cost (suc k) x z m r b n s next leads (acts move) c i j f d h =
-    let l : cost s (suc k) x ≤ 1 + n = rw (moves-call (stanceOf s) move) at h in
-    omega (arith, fall k x z m r b s next leads c (moves-off s Rest move refl) (moves-off s Asleep move refl) (f (omega arith)) (d (omega arith)))
+-- a way to count turns: document 01's are all counted, and none at rest
+pub record Count (counted : Stance → Bool) : Type 0 where
+  pub all : (s : Stance) → moves s ≡ true → counted s ≡ true
+  pub none-at-rest : counted Resting ≡ false
+
+pub by-moves : Count moves
+by-moves = record { all = λ s e. e; none-at-rest = refl }
+
+pub by-calling : Count calling
+by-calling = record { all = moves-call; none-at-rest = refl }
+
+-- one turn: by the room, and by whether it counts. Where a sleeper's turns count, one with room does not sleep
+turn-cost : (counted : Stance → Bool) → Count counted → (k x : ℕ) (z m r : Bool) (b n : ℕ) (s next : Step) → Leads k x z m r b s next → Kind s → Calls (phase s) → (s ≡ Rest → next ≡ Rest) → (s ≡ Asleep → next ≡ Asleep)
+    → (counted Sleeping ≡ true → 0 < k → s ≡ Asleep → ⊥) → (0 < k → s ≡ Copy → next ≡ Rest → ⊥) → cost s k x ≤ pick (counted (stanceOf s)) 1 0 + n → cost next (ownRoom s k) (roomBy s x) ≤ n
+turn-cost counted count zero x z m r b n s next leads kind c i a j f h = omega (arith, cost-zero s next (roomBy s x))
+turn-cost counted count (suc k) x z m r b n s next leads rests c i a j f h =
+    let l : cost Rest (suc k) x ≤ 0 + n = rw (count .none-at-rest) at h in
+    rw (i refl) (omega arith)
+turn-cost counted count (suc k) x z m r b n s next leads dreams c i a j f h = rw (a refl) (by (counted Sleeping) refl)
+  where
+    by : (w : Bool) → counted Sleeping ≡ w → cost Asleep (suc k) x ≤ n
+    by true e = absurd (j e (omega arith) refl)
+    by false e = let l : cost Asleep (suc k) x ≤ 0 + n = rw e at h in omega arith
+turn-cost counted count (suc k) x z m r b n s next leads (acts move) c i a j f h =
+    let l : cost s (suc k) x ≤ 1 + n = rw (count .all (stanceOf s) move) at h in
+    omega (arith, fall k x z m r b s next leads c (moves-off s Rest move refl) (moves-off s Asleep move refl) (f (omega arith)))
 
 -- a turn changes its own party's notes alone
 module _ (p : Party) (payload buffer : List ℕ) (t : Trace) where
@@ -149,16 +164,6 @@ module _ (p : Party) (payload buffer : List ℕ) (t : Trace) where
   notes-kept Recorder n s a wait = refl
   notes-kept Recorder n s a (wakes l b m) = refl
 
-tries-not : (b : Bool) (e : ℕ) → Tries b (waits e) → ⊥
-tries-not true e y = y
-tries-not false e y = y
-
--- a party about to sleep over its epoch has no cause not to
-pub naps : (P S v : ℕ) (on h : Bool) (σ τ : Side) (w : World) (e : ℕ) → duty τ (partyIn w τ .step) ≡ none → partyIn w σ .step ≡ Wait e → rungOf σ (w .trace) ≡ 0 → ReadyAt P S v on h σ τ w
-    → Cause (roomIn P S v on σ (w .trace)) (stopAt σ (leAt 4 (w .region) flagsAt)) → ⊥
-naps P S v on true σ τ w e s q z y = (rw (q, s) at y) z
-naps P S v on false σ τ w e s q z y = λ c. tries-not (partyIn w σ .blocking) e (rw q at y)
-
 pub has-cause : (k : ℕ) (z : Bool) → 0 < k → Cause k z
 has-cause zero z h = absurd (omega arith)
 has-cause (suc k) z h = tt
@@ -166,11 +171,15 @@ has-cause (suc k) z h = tt
 module _ (P S v : ℕ) (on : Bool) where
   -- a stretch under way: the other owes nothing, the party is in a call or between calls, so many turns are left to it at
   -- most, and the other's notes are what they were
-  pub record Going (side : Side) (notes : List Note) (n : ℕ) (w : World) : Type 0 where
+  pub record Stint (side : Side) (notes : List Note) (n : ℕ) (w : World) : Type 0 where
     pub quiet : duty (other side) (partyIn w (other side) .step) ≡ none
     pub calls : Calls (phase (partyIn w side .step))
     pub left : cost (partyIn w side .step) (roomIn P S v on side (w .trace)) (roomIn P S v on (other side) (w .trace)) ≤ n
     pub same : notesOf (other side) (w .trace) ≡ notes
+
+  -- where a sleeper's turns count, one with room does not sleep
+  abbrev pub Awake : (counted : Stance → Bool) → Side → World → Type 0
+  Awake counted side w = counted Sleeping ≡ true → 0 < roomIn P S v on side (w .trace) → partyIn w side .step ≡ Asleep → ⊥
 
   module _ (power-ok : powerOk P ≡ true) (slot-ok : slotOk S ≡ true) (w : World) (real : Real P S v on w) (side : Side) (payload lent : List ℕ) (fault : Fault) where
     abbrev p : Party
@@ -202,6 +211,10 @@ module _ (P S v : ℕ) (on : Bool) where
       unfolding moveOf
       stays-at-rest e = ap (λ (u : Step). stepAfter (moveAt u (p .own) (p .counter) (p .blocking) (p .length) value (errorOf fault)) u) e
 
+      pub dreams-on : s ≡ Asleep → next ≡ Asleep
+      unfolding moveOf
+      dreams-on e = ap (λ (u : Step). stepAfter (moveAt u (p .own) (p .counter) (p .blocking) (p .length) value (errorOf fault)) u) e
+
       fits-here : Big side w → s ≡ Copy → next ≡ Rest → ⊥
       unfolding moveOf
       fits-here big e q =
@@ -210,16 +223,8 @@ module _ (P S v : ℕ) (on : Bool) where
           (subst (λ (u : Step). HasRoom (phase u) k) e (real .sides side .room)) e big
           (sym (ap (λ (u : Step). stepAfter (moveAt u (p .own) (p .counter) (p .blocking) (p .length) value (errorOf fault)) u) e) ∙ q)
 
-      -- it does not fall asleep with cause
-      pub wakeful : duty (other side) (partyIn w (other side) .step) ≡ none → ((e : ℕ) → s ≡ Wait e → rungOf side t < 2 ^ 32) → Ready P S v on side w → Cause k z → (e : ℕ) → s ≡ Wait e → leAt 4 (w .region) (bellAt (sleepBell side)) ≡ e → ⊥
-      wakeful quiet timely y c e at b =
-          naps P S v on (rings (other side) on) side (other side) w e quiet at
-          (unrung e (leAt 4 (w .region) (bellAt (sleepBell side))) (rungOf side t) (timely e at)
-          (subst (λ (u : Step). Since (phase u) (leAt 4 (w .region) (bellAt (sleepBell side))) (rungOf side t)) at (real .sides side .since)) b)
-          y c
-
-      going-taken : (notes : List Note) (n : ℕ) → Big side w → ((e : ℕ) → s ≡ Wait e → rungOf side t < 2 ^ 32) → Ready P S v on side w → Going side notes (pick (calling (stanceOf s)) 1 0 + n) w → Going side notes n after
-      going-taken notes n big timely y go =
+      going-taken : (counted : Stance → Bool) → Count counted → (notes : List Note) (n : ℕ) → Big side w → Awake counted side w → Stint side notes (pick (counted (stanceOf s)) 1 0 + n) w → Stint side notes n after
+      going-taken counted count notes n big awake go =
           let leads = leads-here P S v on power-ok slot-ok w real side payload lent fault g in
           let me = mover-is P S v on power-ok slot-ok w real side payload lent fault g in
           let them = waiter-is P S v on power-ok slot-ok w real side payload lent fault g in
@@ -229,21 +234,18 @@ module _ (P S v : ℕ) (on : Bool) where
             quiet = ap (λ (q : Party). duty (other side) (q .step)) them ∙ duty-kept P S v on power-ok slot-ok w real side payload lent fault g ∙ go .quiet;
             calls = rw me (calls-on _ _ _ _ _ _ s next leads (go .calls));
             left = rw (me, trail, room-own-is p payload buffer t P S v on (w .region) (real .queue) side s (real .sides side .room), room-other-is p payload buffer t P S v on (w .region) (real .queue) side s (real .sides side .room))
-                (turn-cost k _ _ _ _ _ n s next leads (kind s) (go .calls) stays-at-rest
-                (λ h e. dozes P S v on (rings (other side) on) side (other side) w (go .quiet) e y (has-cause k z h))
-                (λ h. fits-here big) (λ h. wakeful (go .quiet) timely y (has-cause k z h)) (go .left));
+                (turn-cost counted count k _ _ _ _ _ n s next leads (kind s) (go .calls) stays-at-rest dreams-on awake (λ h. fits-here big) (go .left));
             same = ap (notesOf (other side)) trail ∙ notes-kept p payload buffer t side (p .counter) s (nextAt s side (p .counter)) (does side (p .counter) s) ∙ go .same;
           }
 
-    pub going-turned : (notes : List Note) (n : ℕ) → Big side w → (takes w side payload lent fault ≡ true → (e : ℕ) → s ≡ Wait e → rungOf side t < 2 ^ 32) → Ready P S v on side w
-        → Going side notes (countsBy calling w side payload lent fault + n) w → Going side notes n (turnWorld w side payload lent fault)
-    going-turned notes n big timely y go = by (takes w side payload lent fault) refl
+    pub going-turned : (counted : Stance → Bool) → Count counted → (notes : List Note) (n : ℕ) → Big side w → Awake counted side w → Stint side notes (countsBy counted w side payload lent fault + n) w → Stint side notes n (turnWorld w side payload lent fault)
+    going-turned counted count notes n big awake go = by (takes w side payload lent fault) refl
       where
-        by : (b : Bool) → takes w side payload lent fault ≡ b → Going side notes n (turnWorld w side payload lent fault)
+        by : (b : Bool) → takes w side payload lent fault ≡ b → Stint side notes n (turnWorld w side payload lent fault)
         by true g =
-            subst (Going side notes n) (sym (turn-is-after P S v on power-ok slot-ok w real side payload lent fault g))
-            (going-taken g notes n big (timely g) y (subst (λ (b : Bool). Going side notes (pick (b && calling (stanceOf s)) 1 0 + n) w) g go))
+            subst (Stint side notes n) (sym (turn-is-after P S v on power-ok slot-ok w real side payload lent fault g))
+            (going-taken g counted count notes n big awake (subst (λ (b : Bool). Stint side notes (pick (b && counted (stanceOf s)) 1 0 + n) w) g go))
         by false g =
             let e : 0 + n ≡ n = omega arith in
-            subst (Going side notes n) (sym (turn-refused w side payload lent fault g))
-            (subst (λ (m : ℕ). Going side notes m w) e (subst (λ (b : Bool). Going side notes (pick (b && calling (stanceOf s)) 1 0 + n) w) g go))
+            subst (Stint side notes n) (sym (turn-refused w side payload lent fault g))
+            (subst (λ (m : ℕ). Stint side notes m w) e (subst (λ (b : Bool). Stint side notes (pick (b && counted (stanceOf s)) 1 0 + n) w) g go))

@@ -32,7 +32,7 @@ ahead Epoch x = 3 + extra x
 ahead (Again e) x = 2 + extra x
 ahead (GateAgain e) x = 4 + extra x
 ahead (Wait e) x = 3 + extra x
-ahead Asleep x = 0
+ahead Asleep x = 2 + extra x
 ahead CloseSet x = 0
 ahead CloseRaise x = 0
 ahead CloseWake x = 0
@@ -139,41 +139,41 @@ passed-cost l t k zero h = omega arith
 passed-cost l t k (suc zero) h = absurd (h refl)
 passed-cost l t k (suc (suc x)) h = omega arith
 
--- with room, a turn of a call takes one off the cost; a pop's copy fits, and nobody falls asleep that has cause
-pub fall : (k x : ℕ) (z m r : Bool) (b : ℕ) (s next : Step) → Leads (suc k) x z m r b s next → Calls (phase s) → (s ≡ Rest → ⊥) → (s ≡ Asleep → ⊥) → (s ≡ Copy → next ≡ Rest → ⊥) → ((e : ℕ) → s ≡ Wait e → b ≡ e → ⊥)
+-- with room, a turn of a call takes one off the cost, where a pop's copy fits
+pub fall : (k x : ℕ) (z m r : Bool) (b : ℕ) (s next : Step) → Leads (suc k) x z m r b s next → Calls (phase s) → (s ≡ Rest → ⊥) → (s ≡ Asleep → ⊥) → (s ≡ Copy → next ≡ Rest → ⊥)
     → suc (cost next (ownRoom s (suc k)) (roomBy s x)) ≤ cost s (suc k) x
-fall k x z m r b s next idles c i j f d = absurd (i refl)
-fall k x z m r b s next (finds h) c i j f d = omega arith
-fall k x z m r b s next (blocks h q) c i j f d = absurd (omega arith)
-fall k x z m r b s next (gives-up h q) c i j f d = absurd (omega arith)
-fall k x z m r b s next copies c i j f d = omega arith
-fall k x z m r b s next spills c i j f d = absurd (f refl refl)
-fall k x z m r b s next (tells {l = l} {t = t} h) c i j f d = stored-cost l t k x
-fall k x z m r b s next (stores {l = l} {t = t} h) c i j f d = alone-cost l t k x
-fall k x z m r b s next (owes {l = l} {t = t} h) c i j f d = owed-cost l t k x h
-fall k x z m r b s next (passes {l = l} {t = t} h) c i j f d = passed-cost l t k x h
-fall k x z m r b s next raises c i j f d = omega arith
-fall k x z m r b s next wakes c i j f d = omega arith
-fall k x z m r b s next (enters h) c i j f d = omega arith
-fall k x z m r b s next (stops h) c i j f d = omega arith
-fall k x z m r b s next reads c i j f d = omega arith
-fall k x z m r b s next (finds-again h) c i j f d = omega arith
-fall k x z m r b s next (stays h) c i j f d = absurd (omega arith)
-fall k x z m r b s next (enters-again h) c i j f d = omega arith
-fall k x z m r b s next (stops-again h) c i j f d = omega arith
-fall k x z m r b s next (falls-asleep h) c i j f d = absurd (d _ refl h)
-fall k x z m r b s next returns c i j f d = omega arith
-fall k x z m r b s next ends c i j f d = omega arith
-fall k x z m r b s next dreams c i j f d = absurd (j refl)
-fall k x z m r b s next (closes h) c i j f d = absurd c
-fall k x z m r b s next (closes-alone h) c i j f d = absurd c
-fall k x z m r b s next close-raises c i j f d = absurd c
-fall k x z m r b s next close-wakes c i j f d = absurd c
-fall k x z m r b s next shuts c i j f d = absurd c
-fall k x z m r b s next shut-raises c i j f d = absurd c
-fall k x z m r b s next shut-wakes c i j f d = absurd c
-fall k x z m r b s next shut-raises-again c i j f d = absurd c
-fall k x z m r b s next shut-wakes-again c i j f d = absurd c
+fall k x z m r b s next idles c i j f = absurd (i refl)
+fall k x z m r b s next (finds h) c i j f = omega arith
+fall k x z m r b s next (blocks h q) c i j f = absurd (omega arith)
+fall k x z m r b s next (gives-up h q) c i j f = absurd (omega arith)
+fall k x z m r b s next copies c i j f = omega arith
+fall k x z m r b s next spills c i j f = absurd (f refl refl)
+fall k x z m r b s next (tells {l = l} {t = t} h) c i j f = stored-cost l t k x
+fall k x z m r b s next (stores {l = l} {t = t} h) c i j f = alone-cost l t k x
+fall k x z m r b s next (owes {l = l} {t = t} h) c i j f = owed-cost l t k x h
+fall k x z m r b s next (passes {l = l} {t = t} h) c i j f = passed-cost l t k x h
+fall k x z m r b s next raises c i j f = omega arith
+fall k x z m r b s next wakes c i j f = omega arith
+fall k x z m r b s next (enters h) c i j f = omega arith
+fall k x z m r b s next (stops h) c i j f = omega arith
+fall k x z m r b s next reads c i j f = omega arith
+fall k x z m r b s next (finds-again h) c i j f = omega arith
+fall k x z m r b s next (stays h) c i j f = absurd (omega arith)
+fall k x z m r b s next (enters-again h) c i j f = omega arith
+fall k x z m r b s next (stops-again h) c i j f = omega arith
+fall k x z m r b s next (falls-asleep h) c i j f = omega arith
+fall k x z m r b s next returns c i j f = omega arith
+fall k x z m r b s next ends c i j f = omega arith
+fall k x z m r b s next dreams c i j f = absurd (j refl)
+fall k x z m r b s next (closes h) c i j f = absurd c
+fall k x z m r b s next (closes-alone h) c i j f = absurd c
+fall k x z m r b s next close-raises c i j f = absurd c
+fall k x z m r b s next close-wakes c i j f = absurd c
+fall k x z m r b s next shuts c i j f = absurd c
+fall k x z m r b s next shut-raises c i j f = absurd c
+fall k x z m r b s next shut-wakes c i j f = absurd c
+fall k x z m r b s next shut-raises-again c i j f = absurd c
+fall k x z m r b s next shut-wakes-again c i j f = absurd c
 
 -- a turn stays in the call or ends it
 pub calls-on : (k x : ℕ) (z m r : Bool) (b : ℕ) (s next : Step) → Leads k x z m r b s next → Calls (phase s) → Calls (phase next)

@@ -35,7 +35,6 @@ use Rattle.rules.proofs.Taken.{turnWorld}
 use Rattle.rules.proofs.RealTurn.{turn-is-after}
 use Rattle.rules.proofs.RealRun.{power-fits, slot-fits, real-reached, in-order}
 use Rattle.rules.proofs.Listening.{trace-is}
-use Rattle.rules.proofs.Asks.{bounded}
 use Rattle.rules.proofs.Real.{InHand}
 
 -- such a Done names what the step carries
@@ -98,9 +97,8 @@ module _ (r : List ℕ) (P S : ℕ) (on : Bool) (v : ℕ) (fresh : Fresh r P S o
   empty-list (n ∷ rest) e = absurd (omega arith)
 
   pub gets-all : GetsAll r P S on v
-  gets-all hs ms a =
+  gets-all hs ms t b =
       let u = reached r P S on v (hs ++ ms) in
-      let b = bounded r P S on v fresh Recorder hs ms a in
-      let o = in-order r P S on v fresh (hs ++ ms) (a .0 .0) in
+      let o = in-order r P S on v fresh (hs ++ ms) t in
       let e : o .1 .0 ≡ [] = empty-list (o .1 .0) (o .1 .2 ∙ b .0) in
       sym (o .1 .1 ∙ ap (λ (x : List Note). u .trace .got ++ x) e ∙ append-nil (u .trace .got)) ∙ b .1

@@ -3,7 +3,7 @@ use mathlib.Core.Path.{_≡_, refl, sym, ap, _∙_, subst}
 use mathlib.Core.Bool.{Bool, true, false, _&&_, _||_}
 use mathlib.Core.List.{List, [], _∷_, _++_}
 use mathlib.Core.Logic.{_⊎_, inl, inr}
-use Prim.Native.Nat.{ℕ, zero, suc, _+_, _-_, _^_, _<_, _≤_}
+use Prim.Native.Nat.{ℕ, zero, suc, _+_, _-_, _<_, _≤_}
 use native.Mathlib.Omega.{arith}
 use Rattle.words.specs.Le.{leAt}
 use Rattle.types.specs.Pick.{pick}
@@ -16,7 +16,9 @@ use Rattle.types.specs.declared.Fault.{Fault}
 use Rattle.types.specs.declared.Fault.the-variants.{Fine, Error}
 use Rattle.types.specs.declared.Event.the-variants.{Turn, Failing, Spurious, TimeOut, Push, Pop, Close, Shutdown}
 use Rattle.types.specs.declared.Step.{Step}
-use Rattle.types.specs.declared.Step.the-variants.{Rest, Asleep, Wait}
+use Rattle.types.specs.declared.Step.the-variants.{Rest, Asleep}
+use Rattle.types.specs.declared.Stance.{Stance}
+use Rattle.types.specs.declared.Stance.the-variants.{Sleeping}
 use Rattle.types.specs.declared.Side.the-variants.{Sender, Recorder}
 use Rattle.types.specs.declared.Access.{Access}
 use Rattle.types.specs.declared.Access.the-variants.{None, LoadCounter, LoadFlags, LoadBell, WriteSlot, ReadSlot, StoreCounter, RaiseBell, SetFlag, WaitBell, WakeBell}
@@ -30,15 +32,15 @@ use Rattle.rules.specs.Take.{stanceOf}
 use Rattle.rules.specs.Next.{nextAt}
 use Rattle.rules.specs.Calls.{pushSpec, popSpec, closeSpec, shutSpec, spuriousSpec, timeoutSpec}
 use Rattle.rules.specs.Bench.{settled, played, playedLeaves}
-use Rattle.rules.specs.Run.{World, Happening, attaches, plays, partyIn, takes, happens, run, begin, rungOf}
-use Rattle.rules.specs.Premises.{Typed, AllTyped, Fair, AllFair, FairTurn}
-use Rattle.rules.specs.Stretch.{calling, countsBy, tickBy, beats, Does, AllOwn}
-use Rattle.rules.specs.Claims.{Fresh, reached, Ends}
+use Rattle.rules.specs.Run.{World, Happening, attaches, plays, partyIn, takes, happens, run, begin}
+use Rattle.rules.specs.Premises.{Typed, AllTyped, AllFair}
+use Rattle.rules.specs.Stretch.{moves, calling, countsBy, tickBy, ticksBy, Does, AllOwn}
+use Rattle.rules.specs.Claims.{Fresh, reached, Stopped, AtRest, EndsTicks, Ends}
 use Rattle.rules.proofs.After.{flagsBy}
 use Rattle.rules.proofs.Leads.{stopAt, Leads}
 use Rattle.rules.proofs.Taken.{turnWorld, turn-refused}
 use Rattle.rules.proofs.RealTurn.{next-step, leads-here, after-turn, turn-is-after}
-use Rattle.rules.proofs.RealCalls.{Changed, seat-same, seated, push-changes, pop-changes, close-changes, shut-changes, spurious-changes, timeout-changes}
+use Rattle.rules.proofs.RealCalls.{Idle, rests as at-rest, looks, closes, shuts, Changed, seat-same, seat-one, seat-two, seated, push-changes, pop-changes, close-changes, shut-changes, spurious-changes, timeout-changes}
 use Rattle.rules.proofs.RealRun.{power-fits, slot-fits, real-reached, real-happens}
 use Rattle.rules.proofs.Heard.{Cause, none, duty}
 use Rattle.rules.proofs.Costs.{less}
@@ -46,8 +48,8 @@ use Rattle.rules.proofs.Nearer.{toRest, seven, rested, nearer}
 use Rattle.rules.proofs.Listening.{duty-kept, mover-is, waiter-is, flags-left}
 use Rattle.rules.proofs.Fairly.{Ready, ready-happens, still-duty, dozes}
 use Rattle.rules.proofs.Causes.{ready-reached}
-use Rattle.rules.proofs.Bound.{moves-call, Kind, rests, dreams, acts, kind, moves-off, wakeful}
-use Rattle.rules.proofs.Asks.{own-timely, run-parts, typed-parts, fair-parts}
+use Rattle.rules.proofs.Bound.{Count, by-moves, by-calling, Kind, rests, dreams, acts, kind, moves-off, dreams-on}
+use Rattle.rules.proofs.Asks.{run-parts, typed-parts, fair-parts}
 use Rattle.rules.proofs.Real.{roomIn, Real}
 
 -- a flag that is up stays up
@@ -83,12 +85,18 @@ stop-cause zero z e = rw e tt
 stop-cause (suc k) z e = tt
 
 -- a turn before rest
-one-less : (s next : Step) → (s ≡ Rest → ⊥) → (s ≡ Asleep → ⊥) → toRest next ≤ less (toRest s) → (n : ℕ) → toRest s ≤ n → (toRest next ≤ n - 1) × (1 ≤ n)
-one-less s next i j h n l = by (toRest s) refl h l
+one-less : (s next : Step) → (s ≡ Rest → ⊥) → toRest next ≤ less (toRest s) → (n : ℕ) → toRest s ≤ n → (toRest next ≤ n - 1) × (1 ≤ n)
+one-less s next i h n l = by (toRest s) refl h l
   where
     by : (m : ℕ) → toRest s ≡ m → toRest next ≤ less m → m ≤ n → (toRest next ≤ n - 1) × (1 ≤ n)
-    by zero e h l = absurd (i (rested s j (omega arith)))
+    by zero e h l = absurd (i (rested s (omega arith)))
     by (suc m) e h l = (omega arith, omega arith)
+
+idle-rest : (s : Step) → Idle s → toRest s ≤ 6
+idle-rest s at-rest = omega arith
+idle-rest s looks = omega arith
+idle-rest s closes = omega arith
+idle-rest s shuts = omega arith
 
 module _ (P S v : ℕ) (on : Bool) where
   -- a stretch under way: the other owes nothing, a flag is up, so many turns are left at most
@@ -103,102 +111,139 @@ module _ (P S v : ℕ) (on : Bool) where
   then-same : (side : Side) (n : ℕ) (w : World) → Ending side n w → Then side n 0 w
   then-same side n w d = let e : n - 0 ≡ n = omega arith in (rw e d, omega arith)
 
-  awake : (side : Side) (n : ℕ) (w : World) → Ready P S v on side w → Ending side n w → partyIn w side .step ≡ Asleep → ⊥
-  awake side n w y d e = dozes P S v on (rings (other side) on) side (other side) w (d .quiet) e y (stop-cause (roomIn P S v on side (w .trace)) _ (d .up))
-
-  -- a call asked for while another runs changes nothing
-  called : (w : World) (side : Side) (q : Party) → Changed side (partyIn w side) q → (partyIn w side .step ≡ Rest → ⊥) → (partyIn w side .step ≡ Asleep → ⊥) → (n : ℕ) → Ending side n w → Then side n 0 (seated P S v on w side q)
-  called w side q (inl e) i j n d =
+  -- a call asked for while another runs changes nothing; what comes to a sleeper takes it no further from its end
+  called : (w : World) (side : Side) (q : Party) → Changed side (partyIn w side) q → (partyIn w side .step ≡ Rest → ⊥) → (n : ℕ) → Ending side n w → Then side n 0 (seated P S v on w side q)
+  called w side q (inl e) i n d =
       subst (Then side n 0) (sym (ap (seated P S v on w side) e ∙ ap (λ (b : Bench). record { region = w .region; bench = b; trace = w .trace }) (seat-same side (w .bench)))) (then-same side n w d)
-  called w side q (inr b) i j n d = by (b .from)
+  called w side q (inr b) i n d = by (b .from)
     where
       by : (partyIn w side .step ≡ Rest) ⊎ (partyIn w side .step ≡ Asleep) → Then side n 0 (seated P S v on w side q)
       by (inl e) = absurd (i e)
-      by (inr e) = absurd (j e)
+      by (inr e) =
+          let l : 6 ≤ n = rw e at (d .left) in
+          then-same side n (seated P S v on w side q)
+          (record { quiet = rw (seat-two side (w .bench) q) (d .quiet); up = d .up; left = rw (seat-one side (w .bench) q) (omega (arith, idle-rest (q .step) (b .idle))) })
 
-  module _ (power-ok : powerOk P ≡ true) (slot-ok : slotOk S ≡ true) where
-    module _ (w : World) (real : Real P S v on w) (side : Side) (payload lent : List ℕ) (fault : Fault) (y : Ready P S v on side w) (n : ℕ) (d : Ending side n w) (i : partyIn w side .step ≡ Rest → ⊥) where
+  -- where a sleeper's turns count, one with a flag up does not sleep
+  abbrev Rouses : (counted : Stance → Bool) → Side → World → Type 0
+  Rouses counted side w = counted Sleeping ≡ true → partyIn w side .step ≡ Asleep → ⊥
+
+  module _ (power-ok : powerOk P ≡ true) (slot-ok : slotOk S ≡ true) (counted : Stance → Bool) (count : Count counted) where
+    module _ (w : World) (real : Real P S v on w) (side : Side) (payload lent : List ℕ) (fault : Fault) (y : Rouses counted side w) (n : ℕ) (d : Ending side n w) (i : partyIn w side .step ≡ Rest → ⊥) where
       abbrev s : Step
       s = partyIn w side .step
 
-      taken-ends : (g : takes w side payload lent fault ≡ true) → ((e : ℕ) → s ≡ Wait e → rungOf side (w .trace) < 2 ^ 32) → Then side n 1 (after-turn P S v on power-ok slot-ok w real side payload lent fault g)
-      taken-ends g timely =
-          let next = next-step P S v on power-ok slot-ok w real side payload lent fault g in
-          let me = mover-is P S v on power-ok slot-ok w real side payload lent fault g in
-          let them = waiter-is P S v on power-ok slot-ok w real side payload lent fault g in
-          let leads = subst (λ (z : Bool). Leads (roomIn P S v on side (w .trace)) (roomIn P S v on (other side) (w .trace)) z (partyIn w side .blocking) (rings side on) (leAt 4 (w .region) (bellAt (sleepBell side))) s next) (d .up) (leads-here P S v on power-ok slot-ok w real side payload lent fault g) in
-          let fell = one-less s next i (awake side n w y d)
-          (nearer _ _ _ _ _ s next leads (wakeful P S v on power-ok slot-ok w real side payload lent fault g (d .quiet) timely y (stop-cause (roomIn P S v on side (w .trace)) _ (d .up)))) n (d .left) in (
+      module _ (g : takes w side payload lent fault ≡ true) where
+        abbrev next : Step
+        next = next-step P S v on power-ok slot-ok w real side payload lent fault g
+
+        abbrev after : World
+        after = after-turn P S v on power-ok slot-ok w real side payload lent fault g
+
+        still-ending : (m : ℕ) → toRest next ≤ m → Ending side m after
+        still-ending m l =
+            let me = mover-is P S v on power-ok slot-ok w real side payload lent fault g in
+            let them = waiter-is P S v on power-ok slot-ok w real side payload lent fault g in
             record {
               quiet = ap (λ (q : Party). duty (other side) (q .step)) them ∙ duty-kept P S v on power-ok slot-ok w real side payload lent fault g ∙ d .quiet;
               up = ap (stopAt side) (flags-left P S v on power-ok slot-ok w real side payload lent fault g) ∙ stop-up side (nextAt s side (partyIn w side .counter)) (leAt 4 (w .region) flagsAt) (real .fixed .small) (d .up);
-              left = rw me (fell .0);
-            },
-            fell .1,
-          )
+              left = rw me l;
+            }
 
-      turned-ends : Kind s → (takes w side payload lent fault ≡ true → (e : ℕ) → s ≡ Wait e → rungOf side (w .trace) < 2 ^ 32) → Then side n (countsBy calling w side payload lent fault) (turnWorld w side payload lent fault)
-      turned-ends k timely = by (takes w side payload lent fault) refl (calling (stanceOf s)) refl
+        moves-nearer : (s ≡ Asleep → ⊥) → Then side n 1 after
+        moves-nearer j =
+            let leads = subst (λ (z : Bool). Leads (roomIn P S v on side (w .trace)) (roomIn P S v on (other side) (w .trace)) z (partyIn w side .blocking) (rings side on) (leAt 4 (w .region) (bellAt (sleepBell side))) s next) (d .up) (leads-here P S v on power-ok slot-ok w real side payload lent fault g) in
+            let fell = one-less s next i (nearer _ _ _ _ _ s next leads j) n (d .left) in
+            (still-ending (n - 1) (fell .0), fell .1)
+
+        sleeps-on : s ≡ Asleep → Then side n 0 after
+        sleeps-on e =
+            let l : 6 ≤ n = rw e at (d .left) in
+            let u : next ≡ Asleep = dreams-on P S v on power-ok slot-ok w real side payload lent fault g e in
+            (still-ending (n - 0) (rw u (omega arith)), omega arith)
+
+        taken-ends : (u : Step) → s ≡ u → Kind u → (m : Bool) → counted (stanceOf u) ≡ m → Then side n (pick m 1 0) after
+        taken-ends u e rests m c = absurd (i e)
+        taken-ends u e dreams true c = absurd (y c e)
+        taken-ends u e dreams false c = sleeps-on e
+        taken-ends u e (acts move) true c = moves-nearer (λ q. moves-off u Asleep move refl (sym e ∙ q))
+        taken-ends u e (acts move) false c = absurd (let q = count .all (stanceOf u) move in let z : _≡_ {A = ℕ} 0 1 = cc in omega arith)
+
+      turned-ends : Then side n (countsBy counted w side payload lent fault) (turnWorld w side payload lent fault)
+      turned-ends = by (takes w side payload lent fault) refl
         where
-          still : (u : Step) → s ≡ u → Kind u → calling (stanceOf u) ≡ true
-          still u e rests = absurd (i e)
-          still u e dreams = absurd (awake side n w y d e)
-          still u e (acts move) = moves-call (stanceOf u) move
-
-          by : (b : Bool) → takes w side payload lent fault ≡ b → (m : Bool) → calling (stanceOf s) ≡ m → Then side n (pick (b && m) 1 0) (turnWorld w side payload lent fault)
-          by false g m e = subst (Then side n 0) (sym (turn-refused w side payload lent fault g)) (then-same side n w d)
-          by true g true e = subst (Then side n 1) (sym (turn-is-after P S v on power-ok slot-ok w real side payload lent fault g)) (taken-ends g (timely g))
-          by true g false e = absurd (let q = still s refl k in let z : _≡_ {A = ℕ} 0 1 = cc in omega arith)
+          by : (b : Bool) → takes w side payload lent fault ≡ b → Then side n (pick (b && counted (stanceOf s)) 1 0) (turnWorld w side payload lent fault)
+          by false g = subst (Then side n 0) (sym (turn-refused w side payload lent fault g)) (then-same side n w d)
+          by true g =
+              subst (Then side n (pick (counted (stanceOf s)) 1 0)) (sym (turn-is-after P S v on power-ok slot-ok w real side payload lent fault g)) (taken-ends g s refl (kind s) (counted (stanceOf s)) refl)
 
     -- a turn by its mover's name
-    turned : (w : World) → Real P S v on w → (side mover : Side) (payload lent : List ℕ) (fault : Fault) → mover ≡ side → (takes w mover payload lent fault ≡ true → FairTurn side mover fault w) → Ready P S v on side w
-        → (n : ℕ) → Ending side n w → (partyIn w side .step ≡ Rest → ⊥) → Then side n (countsBy calling w mover payload lent fault) (turnWorld w mover payload lent fault)
-    turned w real side mover payload lent fault e f y n d i =
-        subst (λ (m : Side). (takes w m payload lent fault ≡ true → FairTurn side m fault w) → Then side n (countsBy calling w m payload lent fault) (turnWorld w m payload lent fault))
-        (sym e) (λ f. turned-ends w real side payload lent fault y n d i (kind (partyIn w side .step)) (λ g. own-timely side fault w (f g))) f
+    turned : (w : World) → Real P S v on w → (side mover : Side) (payload lent : List ℕ) (fault : Fault) → mover ≡ side → Rouses counted side w
+        → (n : ℕ) → Ending side n w → (partyIn w side .step ≡ Rest → ⊥) → Then side n (countsBy counted w mover payload lent fault) (turnWorld w mover payload lent fault)
+    turned w real side mover payload lent fault e y n d i =
+        subst (λ (m : Side). Then side n (countsBy counted w m payload lent fault) (turnWorld w m payload lent fault)) (sym e) (turned-ends w real side payload lent fault y n d i)
 
-    ending-happens : (side : Side) (h : Happening) (w : World) → Typed h → Fair side h w → Does side h → Real P S v on w → Ready P S v on side w → (n : ℕ) → Ending side n w → (partyIn w side .step ≡ Rest → ⊥)
-        → Then side n (tickBy calling h w) (happens h w)
+    ending-happens : (side : Side) (h : Happening) (w : World) → Typed h → Does side h → Real P S v on w → Rouses counted side w → (n : ℕ) → Ending side n w → (partyIn w side .step ≡ Rest → ⊥)
+        → Then side n (tickBy counted h w) (happens h w)
     unfolding happens played playedLeaves settled
-    ending-happens side (attaches mover) w t f m real y n d i = absurd m
-    ending-happens side (plays (Turn mover) b o) w t f m real y n d i = turned w real side mover b o Fine m f y n d i
-    ending-happens side (plays (Failing mover e) b o) w t f m real y n d i = turned w real side mover b o (Error e) m f y n d i
-    ending-happens side (plays (Spurious mover) b o) w t f m real y n d i = rw m (called w side (spuriousSpec side (partyIn w side) .party) (spurious-changes side (partyIn w side)) i (awake side n w y d) n d)
-    ending-happens side (plays (TimeOut mover) b o) w t f m real y n d i = rw m (called w side (timeoutSpec side (partyIn w side) .party) (timeout-changes side (partyIn w side)) i (awake side n w y d) n d)
-    ending-happens side (plays (Push c g l) b o) w t f m real y n d i =
-        rw m (called w Sender (pushSpec (partyIn w Sender) c g l .party) (push-changes (partyIn w Sender) c g l t) (rw m at i) (rw m at (awake side n w y d)) n (rw m at d))
-    ending-happens side (plays (Pop c l) b o) w t f m real y n d i =
-        rw m (called w Recorder (popSpec (partyIn w Recorder) c l .party) (pop-changes (partyIn w Recorder) c l) (rw m at i) (rw m at (awake side n w y d)) n (rw m at d))
-    ending-happens side (plays (Close mover) b o) w t f m real y n d i = rw m (called w side (closeSpec side (partyIn w side) .party) (close-changes side (partyIn w side)) i (awake side n w y d) n d)
-    ending-happens side (plays (Shutdown mover) b o) w t f m real y n d i = rw m (called w side (shutSpec side (partyIn w side) .party) (shut-changes side (partyIn w side)) i (awake side n w y d) n d)
+    ending-happens side (attaches mover) w t m real y n d i = absurd m
+    ending-happens side (plays (Turn mover) b o) w t m real y n d i = turned w real side mover b o Fine m y n d i
+    ending-happens side (plays (Failing mover e) b o) w t m real y n d i = turned w real side mover b o (Error e) m y n d i
+    ending-happens side (plays (Spurious mover) b o) w t m real y n d i = rw m (called w side (spuriousSpec side (partyIn w side) .party) (spurious-changes side (partyIn w side)) i n d)
+    ending-happens side (plays (TimeOut mover) b o) w t m real y n d i = rw m (called w side (timeoutSpec side (partyIn w side) .party) (timeout-changes side (partyIn w side)) i n d)
+    ending-happens side (plays (Push c g l) b o) w t m real y n d i =
+        rw m (called w Sender (pushSpec (partyIn w Sender) c g l .party) (push-changes (partyIn w Sender) c g l t) (rw m at i) n (rw m at d))
+    ending-happens side (plays (Pop c l) b o) w t m real y n d i =
+        rw m (called w Recorder (popSpec (partyIn w Recorder) c l .party) (pop-changes (partyIn w Recorder) c l) (rw m at i) n (rw m at d))
+    ending-happens side (plays (Close mover) b o) w t m real y n d i = rw m (called w side (closeSpec side (partyIn w side) .party) (close-changes side (partyIn w side)) i n d)
+    ending-happens side (plays (Shutdown mover) b o) w t m real y n d i = rw m (called w side (shutSpec side (partyIn w side) .party) (shut-changes side (partyIn w side)) i n d)
 
-    -- the first part of a stretch after which the call has ended
+    -- the first part of a stretch after which the call has ended; `Keeps` as in T2
     abbrev pub Ended : Side → List Happening → (n : ℕ) → World → Type 0
-    Ended side ms n w = (first : List Happening) × ((rest : List Happening) × ((ms ≡ first ++ rest) × ((beats first w ≤ n) × (partyIn (run first w) side .step ≡ Rest))))
+    Ended side ms n w = (first : List Happening) × ((rest : List Happening) × ((ms ≡ first ++ rest) × ((ticksBy counted first w ≤ n) × (partyIn (run first w) side .step ≡ Rest))))
 
-    ending-run : (side : Side) (ms : List Happening) (w : World) → AllTyped ms → AllFair side ms w → AllOwn side ms → Real P S v on w → Ready P S v on side w → (n : ℕ) → Ending side n w → n ≤ beats ms w → Ended side ms n w
-    unfolding run
-    ending-run side [] w t f m real y n d l = ([], ([], (refl, (omega arith, rested (partyIn w side .step) (awake side n w y d) (omega (arith, d .left))))))
-    ending-run side (h ∷ ms) w t f m real y n d l =
-        by (partyIn w side .step) refl (kind (partyIn w side .step))
-        (λ i.
-        let one = ending-happens side h w (t .0) (f .0) (m .0) real y n d i in
-        let more = ending-run side ms (happens h w) (t .1) (f .1) (m .1) (real-happens P S v on power-ok slot-ok h w (t .0) real) (ready-happens P S v on power-ok slot-ok side h w (t .0) (f .0) real y) (n - tickBy calling h w) (one .0)
-        (omega (arith, one .1)) in
-        (h ∷ more .0, (more .1 .0, (ap (λ (u : List Happening). h ∷ u) (more .1 .1 .0), (omega (arith, more .1 .1 .1 .0, one .1), more .1 .1 .1 .1)))))
-      where
-        by : (s : Step) → partyIn w side .step ≡ s → Kind s → ((partyIn w side .step ≡ Rest → ⊥) → Ended side (h ∷ ms) n w) → Ended side (h ∷ ms) n w
-        by s e rests go = ([], (h ∷ ms, (refl, (omega arith, e))))
-        by s e dreams go = absurd (awake side n w y d e)
-        by s e (acts move) go = go (λ q. moves-off s Rest move refl (sym e ∙ q))
+    module _ (side : Side) (Keeps : List Happening → World → Type 0)
+        (on-it-goes : (h : Happening) (hs : List Happening) (w : World) → Typed h → Real P S v on w → Keeps (h ∷ hs) w → Keeps hs (happens h w))
+        (rouses : (hs : List Happening) (w : World) (n : ℕ) → Keeps hs w → Ending side n w → Rouses counted side w) where
+      pub ending-run : (ms : List Happening) (w : World) → AllTyped ms → AllOwn side ms → Real P S v on w → Keeps ms w → (n : ℕ) → Ending side n w → n ≤ ticksBy counted ms w → Ended side ms n w
+      unfolding run
+      ending-run [] w t m real y n d l = ([], ([], (refl, (omega arith, rested (partyIn w side .step) (omega (arith, d .left))))))
+      ending-run (h ∷ ms) w t m real y n d l =
+          by (partyIn w side .step) refl (kind (partyIn w side .step))
+          (λ i.
+          let one = ending-happens side h w (t .0) (m .0) real (rouses (h ∷ ms) w n y d) n d i in
+          let more = ending-run ms (happens h w) (t .1) (m .1) (real-happens P S v on power-ok slot-ok h w (t .0) real) (on-it-goes h ms w (t .0) real y) (n - tickBy counted h w) (one .0)
+          (omega (arith, one .1)) in
+          (h ∷ more .0, (more .1 .0, (ap (λ (u : List Happening). h ∷ u) (more .1 .1 .0), (omega (arith, more .1 .1 .1 .0, one .1), more .1 .1 .1 .1)))))
+        where
+          by : (s : Step) → partyIn w side .step ≡ s → Kind s → ((partyIn w side .step ≡ Rest → ⊥) → Ended side (h ∷ ms) n w) → Ended side (h ∷ ms) n w
+          by s e rests go = ([], (h ∷ ms, (refl, (omega arith, e))))
+          by s e dreams go = go (λ q. let f = sym e ∙ q in let z : _≡_ {A = ℕ} 0 1 = cc in omega arith)
+          by s e (acts move) go = go (λ q. moves-off s Rest move refl (sym e ∙ q))
 
 module _ (r : List ℕ) (P S : ℕ) (on : Bool) (v : ℕ) (fresh : Fresh r P S on v) where
-  pub ends : (side : Side) → Ends r P S on v side
-  ends side hs ms t f still up own long =
+  -- by any count, and whatever rouses the party
+  ends-by : (counted : Stance → Bool) → Count counted → (side : Side) (Keeps : List Happening → World → Type 0)
+      → ((h : Happening) (hs : List Happening) (w : World) → Typed h → Real P S v on w → Keeps (h ∷ hs) w → Keeps hs (happens h w))
+      → ((hs : List Happening) (w : World) (n : ℕ) → Keeps hs w → Ending P S v on side n w → Rouses P S v on counted side w)
+      → (hs ms : List Happening) → AllTyped (hs ++ ms) → Stopped r P S on v side hs → AllOwn side ms → Keeps ms (reached r P S on v hs) → 7 ≤ ticksBy counted ms (reached r P S on v hs) → AtRest r P S on v counted side hs ms
+  ends-by counted count side Keeps goes rouses hs ms t stop own y long =
       let w = reached r P S on v hs in
       let typed = typed-parts hs ms t in
-      let fair = fair-parts side hs ms (begin (created r P S on v)) f in
-      let start : Ending P S v on side 7 w = record { quiet = still-duty (other side) (partyIn w (other side) .step) still; up = up; left = seven (partyIn w side .step) } in
-      let done = ending-run P S v on (power-fits r P S on v fresh) (slot-fits r P S on v fresh) side ms w (typed .1) (fair .1) own (real-reached r P S on v fresh hs (typed .0))
-      (ready-reached r P S on v fresh side hs (typed .0) (fair .0)) 7 start long in
+      let start : Ending P S v on side 7 w = record { quiet = still-duty (other side) (partyIn w (other side) .step) (stop .0); up = stop .1; left = seven (partyIn w side .step) } in
+      let done = ending-run P S v on (power-fits r P S on v fresh) (slot-fits r P S on v fresh) counted count side Keeps goes rouses ms w (typed .1) own (real-reached r P S on v fresh hs (typed .0)) y 7 start long in
       (done .0, (done .1 .0, (done .1 .1 .0, (done .1 .1 .1 .0, subst (λ (u : World). partyIn u side .step ≡ Rest) (sym (run-parts hs (done .0) (begin (created r P S on v)))) (done .1 .1 .1 .1)))))
+
+  -- document 01's turns: nothing is asked of wakes and bells
+  pub ends-ticks : (side : Side) → EndsTicks r P S on v side
+  ends-ticks side hs ms t stop own long = ends-by moves by-moves side (λ ms w. Unit) (λ h hs w t real y. tt) (λ hs w n y d e. absurd (let z : _≡_ {A = ℕ} 0 1 = cc in omega arith)) hs ms t stop own tt long
+
+  -- and those asleep with them
+  pub ends : (side : Side) → Ends r P S on v side
+  ends side hs ms t f stop own long =
+      let typed = typed-parts hs ms t in
+      let fair = fair-parts side hs ms (begin (created r P S on v)) f in
+      ends-by calling by-calling side (λ ms w. AllFair side ms w × Ready P S v on side w)
+      (λ h hs w t real y. (y .0 .1, ready-happens P S v on (power-fits r P S on v fresh) (slot-fits r P S on v fresh) side h w t (y .0 .0) real (y .1)))
+      (λ hs w n y d c e. dozes P S v on (rings (other side) on) side (other side) w (d .quiet) e (y .1) (stop-cause (roomIn P S v on side (w .trace)) _ (d .up)))
+      hs ms t stop own (fair .1, ready-reached r P S on v fresh side hs (typed .0) (fair .0)) long

@@ -22,7 +22,7 @@ toRest Epoch = 7
 toRest (Again e) = 6
 toRest (GateAgain e) = 1
 toRest (Wait e) = 7
-toRest Asleep = 0
+toRest Asleep = 6
 toRest CloseSet = 3
 toRest CloseRaise = 2
 toRest CloseWake = 1
@@ -55,31 +55,31 @@ seven (ShutWakeNe c) = omega arith
 seven (ShutRaiseNf c f) = omega arith
 seven (ShutWakeNf c f) = omega arith
 
-pub rested : (s : Step) → (s ≡ Asleep → ⊥) → toRest s ≤ 0 → s ≡ Rest
-rested Rest d h = refl
-rested Look d h = absurd (omega arith)
-rested Copy d h = absurd (omega arith)
-rested (Publish l g) d h = absurd (omega arith)
-rested (Check l g) d h = absurd (omega arith)
-rested (Raise l g) d h = absurd (omega arith)
-rested (Wake l g) d h = absurd (omega arith)
-rested Gate d h = absurd (omega arith)
-rested Epoch d h = absurd (omega arith)
-rested (Again e) d h = absurd (omega arith)
-rested (GateAgain e) d h = absurd (omega arith)
-rested (Wait e) d h = absurd (omega arith)
-rested Asleep d h = absurd (d refl)
-rested CloseSet d h = absurd (omega arith)
-rested CloseRaise d h = absurd (omega arith)
-rested CloseWake d h = absurd (omega arith)
-rested (ShutSet c) d h = absurd (omega arith)
-rested (ShutRaiseNe c) d h = absurd (omega arith)
-rested (ShutWakeNe c) d h = absurd (omega arith)
-rested (ShutRaiseNf c f) d h = absurd (omega arith)
-rested (ShutWakeNf c f) d h = absurd (omega arith)
+pub rested : (s : Step) → toRest s ≤ 0 → s ≡ Rest
+rested Rest h = refl
+rested Look h = absurd (omega arith)
+rested Copy h = absurd (omega arith)
+rested (Publish l g) h = absurd (omega arith)
+rested (Check l g) h = absurd (omega arith)
+rested (Raise l g) h = absurd (omega arith)
+rested (Wake l g) h = absurd (omega arith)
+rested Gate h = absurd (omega arith)
+rested Epoch h = absurd (omega arith)
+rested (Again e) h = absurd (omega arith)
+rested (GateAgain e) h = absurd (omega arith)
+rested (Wait e) h = absurd (omega arith)
+rested Asleep h = absurd (omega arith)
+rested CloseSet h = absurd (omega arith)
+rested CloseRaise h = absurd (omega arith)
+rested CloseWake h = absurd (omega arith)
+rested (ShutSet c) h = absurd (omega arith)
+rested (ShutRaiseNe c) h = absurd (omega arith)
+rested (ShutWakeNe c) h = absurd (omega arith)
+rested (ShutRaiseNf c f) h = absurd (omega arith)
+rested (ShutWakeNf c f) h = absurd (omega arith)
 
--- with a flag up, a turn takes one off them
-pub nearer : (k x : ℕ) (m r : Bool) (b : ℕ) (s next : Step) → Leads k x true m r b s next → ((e : ℕ) → s ≡ Wait e → b ≡ e → ⊥) → toRest next ≤ less (toRest s)
+-- with a flag up, a turn takes one off them, but for a sleeper's
+pub nearer : (k x : ℕ) (m r : Bool) (b : ℕ) (s next : Step) → Leads k x true m r b s next → (s ≡ Asleep → ⊥) → toRest next ≤ less (toRest s)
 nearer k x m r b s next idles d = omega arith
 nearer k x m r b s next (finds h) d = omega arith
 nearer k x m r b s next (blocks h q) d = omega arith
@@ -99,10 +99,10 @@ nearer k x m r b s next (finds-again h) d = omega arith
 nearer k x m r b s next (stays h) d = omega arith
 nearer k x m r b s next (enters-again h) d = absurd (let u : _≡_ {A = ℕ} 0 1 = cc in omega arith)
 nearer k x m r b s next (stops-again h) d = omega arith
-nearer k x m r b s next (falls-asleep h) d = absurd (d _ refl h)
+nearer k x m r b s next (falls-asleep h) d = omega arith
 nearer k x m r b s next returns d = omega arith
 nearer k x m r b s next ends d = omega arith
-nearer k x m r b s next dreams d = omega arith
+nearer k x m r b s next dreams d = absurd (d refl)
 nearer k x m r b s next (closes h) d = omega arith
 nearer k x m r b s next (closes-alone h) d = omega arith
 nearer k x m r b s next close-raises d = omega arith

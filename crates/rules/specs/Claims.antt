@@ -12,6 +12,7 @@ use Rattle.types.specs.declared.Fault.{Fault}
 use Rattle.types.specs.declared.Fault.the-variants.{Fine, Error}
 use Rattle.types.specs.declared.Step.{Step}
 use Rattle.types.specs.declared.Step.the-variants.{Rest, Look, Publish, Check, Wake, Asleep, CloseSet, ShutSet}
+use Rattle.types.specs.declared.Stance.{Stance}
 use Rattle.types.specs.declared.Event.{Event}
 use Rattle.types.specs.declared.Event.the-variants.{Turn, Failing}
 use Rattle.types.specs.declared.Answer.the-variants.{Done, Begun, Nothing}
@@ -24,7 +25,7 @@ use Rattle.rules.specs.Calls.{sound, at, named, pushSpec, popSpec, close
 use Rattle.rules.specs.Turn.{turnSpec}
 use Rattle.rules.specs.Run.{Note, Trace, World, Happening, plays, partyIn, takes, happens, run, begin}
 use Rattle.rules.specs.Premises.{AllTyped, AllFair, AllLand, rung, partings, Still, down, closedBit}
-use Rattle.rules.specs.Stretch.{ticks, beats, AllOwn, Willing, inCall, notesOf, holdsEpoch, Underway, inWait, Turns}
+use Rattle.rules.specs.Stretch.{moves, calling, ticksBy, ticks, beats, AllOwn, Willing, inCall, notesOf, holdsEpoch, Underway, inWait, Turns}
 
 -- how many notes wait: head − tail, in the region's bytes
 abbrev pub waiting : World → ℕ
@@ -113,24 +114,34 @@ module _ (region : List ℕ) (power slot : ℕ) (notfull : Bool) (start : ℕ) w
       → AllLand side hs (begin (created region power slot notfull start)) → AllFair side hs (begin (created region power slot notfull start))
 
   -- T2: the other between calls or asleep and not moving, the party in a push or a pop or between calls, and willing ..
+  abbrev pub Willed : Side → (hs ms : List Happening) → Type 0
+  Willed side hs ms = AllTyped (hs ++ ms) × (Still (other side) (reached hs) × ((inCall (partyIn (reached hs) side .step) ≡ true) × Willing side ms (reached hs)))
+
+  -- .. in the end no room is left, and not because the other did anything
+  abbrev pub Emptied : Side → (hs ms : List Happening) → Type 0
+  Emptied side hs ms =
+      (room side (capacity power) (reached (hs ++ ms)) ≡ 0) × (notesOf (other side) (reached (hs ++ ms) .trace) ≡ notesOf (other side) (reached hs .trace))
+
+  -- after at least 4 times its room, and 3, of document 01's turns, whatever wakes and bells do ..
+  abbrev pub BoundedTicks : Side → Type 0
+  BoundedTicks side = (hs ms : List Happening) → Willed side hs ms → 4 * room side (capacity power) (reached hs) + 3 ≤ ticks ms (reached hs) → Emptied side hs ms
+
+  -- .. and, on a run that is fair to it, of its turns in a call, those it sleeps through counted too: it does not sleep over room
   abbrev pub Going : Side → (hs ms : List Happening) → Type 0
   Going side hs ms =
       AllTyped (hs ++ ms)
       × (AllFair side (hs ++ ms) (begin (created region power slot notfull start))
       × (Still (other side) (reached hs) × ((inCall (partyIn (reached hs) side .step) ≡ true) × Willing side ms (reached hs))))
 
-  -- .. for at least 4 times its room, and 3, turns of its own, those it sleeps through counted too ..
   abbrev pub Alone : Side → (hs ms : List Happening) → Type 0
   Alone side hs ms = Going side hs ms × (4 * room side (capacity power) (reached hs) + 3 ≤ beats ms (reached hs))
 
-  -- .. no room is left, and not because the other did anything
   abbrev pub Bounded : Side → Type 0
-  Bounded side = (hs ms : List Happening) → Alone side hs ms
-      → (room side (capacity power) (reached (hs ++ ms)) ≡ 0) × (notesOf (other side) (reached (hs ++ ms) .trace) ≡ notesOf (other side) (reached hs .trace))
+  Bounded side = (hs ms : List Happening) → Alone side hs ms → Emptied side hs ms
 
-  -- so a recorder has got every note that was sent
+  -- either way a recorder has then got every note that was sent
   abbrev pub GetsAll : Type 0
-  GetsAll = (hs ms : List Happening) → Alone Recorder hs ms → reached (hs ++ ms) .trace .got ≡ reached hs .trace .sent
+  GetsAll = (hs ms : List Happening) → AllTyped (hs ++ ms) → Emptied Recorder hs ms → reached (hs ++ ms) .trace .got ≡ reached hs .trace .sent
 
   -- willing stretches of every length exist from every state of the premises: the party attached and not closed
   abbrev pub Lasts : Side → Type 0
@@ -144,13 +155,22 @@ module _ (region : List ℕ) (power slot : ℕ) (notfull : Bool) (start : ℕ) w
       (hs : List Happening) × ((ms : List Happening) × (Going Recorder hs ms
       × ((4 * room Recorder (capacity power) (reached hs) + 2 ≡ beats ms (reached hs)) × (room Recorder (capacity power) (reached (hs ++ ms)) ≡ 1))))
 
-  -- T4: once the other has closed or anyone has shut down, and the other is between calls or asleep and not moving, a call
-  -- under way answers within 7 turns of its own, asleep or not, whatever its waits do and whatever it asks meanwhile
+  -- T4: once the other has closed or anyone has shut down, and the other is between calls or asleep and not moving ..
+  abbrev pub Stopped : Side → (hs : List Happening) → Type 0
+  Stopped side hs = Still (other side) (reached hs) × ((down (reached hs) || closedBit (other side) (reached hs)) ≡ true)
+
+  -- .. a call under way has answered after a first part of at most 7 turns of its own, whatever its waits do and whatever it asks meanwhile
+  abbrev pub AtRest : (counted : Stance → Bool) → Side → (hs ms : List Happening) → Type 0
+  AtRest counted side hs ms =
+      (first : List Happening) × ((rest : List Happening) × ((ms ≡ first ++ rest) × ((ticksBy counted first (reached hs) ≤ 7) × (partyIn (reached (hs ++ first)) side .step ≡ Rest))))
+
+  -- by document 01's turns, whatever wakes and bells do; and, on a run that is fair to it, with those it sleeps through
+  abbrev pub EndsTicks : Side → Type 0
+  EndsTicks side = (hs ms : List Happening) → AllTyped (hs ++ ms) → Stopped side hs → AllOwn side ms → 7 ≤ ticks ms (reached hs) → AtRest moves side hs ms
+
   abbrev pub Ends : Side → Type 0
   Ends side = (hs ms : List Happening) → AllTyped (hs ++ ms) → AllFair side (hs ++ ms) (begin (created region power slot notfull start))
-      → Still (other side) (reached hs) → (down (reached hs) || closedBit (other side) (reached hs)) ≡ true → AllOwn side ms
-      → 7 ≤ beats ms (reached hs)
-      → (first : List Happening) × ((rest : List Happening) × ((ms ≡ first ++ rest) × ((beats first (reached hs) ≤ 7) × (partyIn (reached (hs ++ first)) side .step ≡ Rest))))
+      → Stopped side hs → AllOwn side ms → 7 ≤ beats ms (reached hs) → AtRest calling side hs ms
 
   -- T9: a party alone in a blocking call with no room, nobody closed or shut down, no wait failing, is asleep within 9 turns of
   -- its own, and within 6 of its look ..
