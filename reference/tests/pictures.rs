@@ -1,10 +1,9 @@
 //! The table of steps that docs/steps.svg is drawn from (docs/steps.txt), held to what the
-//! reference does, and the pictures to their tables.
+//! reference does.
 
 use std::collections::{HashMap, HashSet};
 use std::fs;
 use std::path::Path;
-use std::process::Command;
 
 use reference::coverage::event::Event;
 use reference::coverage::way::Place;
@@ -276,12 +275,4 @@ fn the_table_of_steps_is_true() {
     assert_same(&walked, &table.ways(|row| !row.starred));
     let all = walked.union(&spoilt(stands)).cloned().collect();
     assert_same(&all, &table.ways(|_| true));
-}
-
-#[test]
-fn the_pictures_are_those_of_their_tables() {
-    let tool = Path::new(ROOT).join("tools/pictures");
-    let made = Command::new(&tool).arg("--check").output().unwrap();
-    let said = String::from_utf8_lossy(&made.stderr);
-    assert!(made.status.success(), "{said}");
 }
