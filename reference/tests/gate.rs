@@ -17,6 +17,7 @@ const PROVED: &str = "printf 'one proved\\ntwo proved\\n7 passed, 0 failed\\n'";
 struct Tools {
     format: &'static str,
     stated: &'static str,
+    pictures: &'static str,
     prove: &'static str,
     tests: &'static str,
     cases: &'static str,
@@ -27,6 +28,7 @@ struct Tools {
 const GOOD: Tools = Tools {
     format: "exit 0",
     stated: "exit 0",
+    pictures: "exit 0",
     prove: PROVED,
     tests: "exit 0",
     cases: "echo 'the cases'",
@@ -36,11 +38,12 @@ const GOOD: Tools = Tools {
 
 fn folder(name: &str, tools: &Tools) -> PathBuf {
     let folder = PathBuf::from(env!("CARGO_TARGET_TMPDIR")).join(format!("gate-{name}"));
-    for part in [".ci", "bin", "scripts", "crates/cases"] {
+    for part in [".ci", "bin", "scripts", "tools", "crates/cases"] {
         fs::create_dir_all(folder.join(part)).unwrap();
     }
     fs::write(folder.join(".ci/run"), fs::read(GATE).unwrap()).unwrap();
     executable(&folder.join(".ci/stated"), tools.stated);
+    executable(&folder.join("tools/pictures"), tools.pictures);
     let rt = format!(
         "case \"$*\" in\n'fmt --check') {} ;;\nci) {} ;;\n*) exit 99 ;;\nesac",
         tools.format, tools.prove
@@ -133,6 +136,13 @@ fn whatever_fails_fails_the_gate() {
             "stated",
             Tools {
                 stated: bad,
+                ..GOOD
+            },
+        ),
+        (
+            "pictures",
+            Tools {
+                pictures: bad,
                 ..GOOD
             },
         ),

@@ -1,4 +1,4 @@
--- What the claims ask of a run, and what they ask of a world: document 01, part 8.
+-- What the claims ask of a run, and what they ask of a world: the premises of document 01's demand 3.
 use mathlib.Core.Path.{_≡_}
 use mathlib.Core.Bool.{Bool, true}
 use mathlib.Core.List.{List, [], _∷_}
