@@ -36,7 +36,7 @@ use Rattle.rules.specs.Next.{nextSpec}
 use Rattle.rules.specs.Access.{valueOf}
 use Rattle.rules.specs.Calls.{isSleeping, sound, ready, pushSpec, popSpec, closeSpec, shutSpec, spuriousSpec, timeoutSpec}
 use Rattle.rules.specs.Turn.{errorOf, taken, runSpec, turnSpec}
-use Rattle.rules.specs.Given.{Checked, passed, fails, holds, Ends, published, checked, woke, closed-alone, closed, shut, corrupt, bad-slot, too-small, full, empty, left, left-again, down, down-again, late, wake-failed, close-failed, wait-failed, shut-failed, shut-failed-last, resting, asleep, goes-on, Ask, create, attach, push, pop, close, shutdown, spurious, timeout, turn, Given, created, attached, push-bad, pop-bad, close-bad, shutdown-bad, spurious-bad, timeout-bad, turn-bad, push-closed, pop-closed, close-closed, push-off, push-long, push-begun, pop-begun, close-begun, shutdown-begun, spurious-idle, timeout-idle, spurious-taken, timeout-taken, turn-taken, answered}
+use Rattle.rules.specs.Given.{Checked, passed, fails, holds, EndsWith, published, checked, woke, closed-alone, closed, shut, corrupt, bad-slot, too-small, full, empty, left, left-again, down, down-again, late, wake-failed, close-failed, wait-failed, shut-failed, shut-failed-last, resting, asleep, goes-on, Ask, create, attach, push, pop, close, shutdown, spurious, timeout, turn, Given, created, attached, push-bad, pop-bad, close-bad, shutdown-bad, spurious-bad, timeout-bad, turn-bad, push-closed, pop-closed, close-closed, push-off, push-long, push-begun, pop-begun, close-begun, shutdown-begun, spurious-idle, timeout-idle, spurious-taken, timeout-taken, turn-taken, answered}
 
 -- a list of checks
 pub checked-first : (cs : List Check) → Checked cs (firstOf cs)
@@ -50,7 +50,7 @@ checked-only (fails e) = rw e
 checked-only (holds e c) = rw e (checked-only c)
 
 -- a turn, by its step: no other answer than its row's
-pub ends-only : {p : Party} {v e : ℕ} {x : Answer} → Ends p v e x → answerOf (moveOf p v e) ≡ x
+pub ends-only : {p : Party} {v e : ℕ} {x : Answer} → EndsWith p v e x → answerOf (moveOf p v e) ≡ x
 unfolding moveOf lookMove copyMove publishMove checkMove wakeMove gateMove waitMove closeMove shutMove
 ends-only (published s r) = rw (s, r)
 ends-only (checked s b) = rw (s, b)
@@ -86,7 +86,7 @@ module _ (p : Party) (v e : ℕ) where
   fit-here = fitOf (headLength v) (payloadCapacity (p .own .slot)) (p .length)
 
   look-ends : p .step ≡ Look → (r : Room) → room-here ≡ r → (b : Bool) → p .blocking ≡ b → (q : Side) → p .own .side ≡ q
-      → Ends p v e (answerOf (roomMove r (stuckMove b q)))
+      → EndsWith p v e (answerOf (roomMove r (stuckMove b q)))
   unfolding moveOf lookMove
   look-ends s Corrupt r b k q o = goes-on {s = ShutSet true} (rw (s, r))
   look-ends s Free r b k q o = goes-on {s = Copy} (rw (s, r))
@@ -95,7 +95,7 @@ module _ (p : Party) (v e : ℕ) where
   look-ends s Stuck r false k Recorder o = empty s o k (rw o at r)
 
   copy-ends : p .step ≡ Copy → (q : Side) → p .own .side ≡ q → (f : Fit) → fit-here ≡ f
-      → Ends p v e (answerOf (copyWith q (fitMove f (headLength v) (headTag v))))
+      → EndsWith p v e (answerOf (copyWith q (fitMove f (headLength v) (headTag v))))
   unfolding moveOf copyMove
   copy-ends s Sender o f h = goes-on {s = Publish 0 0} (rw (s, o))
   copy-ends s Recorder o Bad h = bad-slot s o h
@@ -103,63 +103,63 @@ module _ (p : Party) (v e : ℕ) where
   copy-ends s Recorder o Good h = goes-on {s = Publish (headLength v) (headTag v)} (rw (s, o, h))
 
   publish-ends : (l t : ℕ) → p .step ≡ Publish l t → (b : Bool) → rings (p .own .side) (p .own .notfull) ≡ b
-      → Ends p v e (answerOf (pick b (To (Checking l t)) (End (Done l t))))
+      → EndsWith p v e (answerOf (pick b (To (Checking l t)) (End (Done l t))))
   unfolding moveOf publishMove
   publish-ends l t s true h = goes-on {s = Checking l t} (rw (s, h))
   publish-ends l t s false h = published s h
 
   check-ends : (l t : ℕ) → p .step ≡ Checking l t → (b : Bool) → wasBlocked (p .own .side) (capacity (p .own .power)) (p .counter) v ≡ b
-      → Ends p v e (answerOf (pick b (To (Raise l t)) (End (Done l t))))
+      → EndsWith p v e (answerOf (pick b (To (Raise l t)) (End (Done l t))))
   unfolding moveOf checkMove
   check-ends l t s true h = goes-on {s = Raise l t} (rw (s, h))
   check-ends l t s false h = checked s h
 
-  wake-ends : (l t : ℕ) → p .step ≡ Wake l t → (b : Bool) → eqb e 0 ≡ b → Ends p v e (pick b (Done l t) (Syscall (wakeOp (ringBell (p .own .side))) e))
+  wake-ends : (l t : ℕ) → p .step ≡ Wake l t → (b : Bool) → eqb e 0 ≡ b → EndsWith p v e (pick b (Done l t) (Syscall (wakeOp (ringBell (p .own .side))) e))
   wake-ends l t s true h = woke s h
   wake-ends l t s false h = wake-failed s h
 
-  gate-ends : p .step ≡ Gate → (d : Door) → doorOf (p .own .side) v ≡ d → Ends p v e (answerOf (doorMove d Epoch))
+  gate-ends : p .step ≡ Gate → (d : Door) → doorOf (p .own .side) v ≡ d → EndsWith p v e (answerOf (doorMove d Epoch))
   unfolding moveOf gateMove
   gate-ends s Shut h = down s h
   gate-ends s Left h = left s h
   gate-ends s Open h = goes-on {s = Epoch} (rw (s, h))
 
-  gate-again-ends : (n : ℕ) → p .step ≡ GateAgain n → (d : Door) → doorOf (p .own .side) v ≡ d → Ends p v e (answerOf (doorMove d (Wait n)))
+  gate-again-ends : (n : ℕ) → p .step ≡ GateAgain n → (d : Door) → doorOf (p .own .side) v ≡ d → EndsWith p v e (answerOf (doorMove d (Wait n)))
   unfolding moveOf gateMove
   gate-again-ends n s Shut h = down-again s h
   gate-again-ends n s Left h = left-again s h
   gate-again-ends n s Open h = goes-on {s = Wait n} (rw (s, h))
 
-  again-ends : (n : ℕ) → p .step ≡ Again n → (r : Room) → room-here ≡ r → Ends p v e (answerOf (roomMove r (To (GateAgain n))))
+  again-ends : (n : ℕ) → p .step ≡ Again n → (r : Room) → room-here ≡ r → EndsWith p v e (answerOf (roomMove r (To (GateAgain n))))
   unfolding moveOf againMove
   again-ends n s Corrupt h = goes-on {s = ShutSet true} (rw (s, h))
   again-ends n s Stuck h = goes-on {s = GateAgain n} (rw (s, h))
   again-ends n s Free h = goes-on {s = Copy} (rw (s, h))
 
-  wait-ends : (n : ℕ) → p .step ≡ Wait n → (k : Nap) → napOf e (eqb v n) ≡ k → Ends p v e (answerOf (napMove k (waitOp (sleepBell (p .own .side))) e))
+  wait-ends : (n : ℕ) → p .step ≡ Wait n → (k : Nap) → napOf e (eqb v n) ≡ k → EndsWith p v e (answerOf (napMove k (waitOp (sleepBell (p .own .side))) e))
   unfolding moveOf waitMove
   wait-ends n s Sleeps h = goes-on {s = Asleep} (rw (s, h))
   wait-ends n s Returns h = goes-on {s = Look} (rw (s, h))
   wait-ends n s Late h = late s h
   wait-ends n s Fails h = wait-failed s h
 
-  close-set-ends : p .step ≡ CloseSet → (b : Bool) → rings (p .own .side) (p .own .notfull) ≡ b → Ends p v e (answerOf (pick b (To CloseRaise) (End (Done 0 0))))
+  close-set-ends : p .step ≡ CloseSet → (b : Bool) → rings (p .own .side) (p .own .notfull) ≡ b → EndsWith p v e (answerOf (pick b (To CloseRaise) (End (Done 0 0))))
   unfolding moveOf closeMove
   close-set-ends s true h = goes-on {s = CloseRaise} (rw (s, h))
   close-set-ends s false h = closed-alone s h
 
-  close-wake-ends : p .step ≡ CloseWake → (b : Bool) → eqb e 0 ≡ b → Ends p v e (pick b (Done 0 0) (Syscall (wakeOp (ringBell (p .own .side))) e))
+  close-wake-ends : p .step ≡ CloseWake → (b : Bool) → eqb e 0 ≡ b → EndsWith p v e (pick b (Done 0 0) (Syscall (wakeOp (ringBell (p .own .side))) e))
   close-wake-ends s true h = closed s h
   close-wake-ends s false h = close-failed s h
 
   shut-ends : (c : Bool) (n : ℕ) → p .step ≡ ShutWakeNf c n → (a : Bool) → eqb n 0 ≡ a → (b : Bool) → eqb e 0 ≡ b
-      → Ends p v e (pick c CorruptIndices (pick a (pick b (Done 0 0) (Syscall (wakeOp NotFull) e)) (Syscall (wakeOp NotEmpty) n)))
+      → EndsWith p v e (pick c CorruptIndices (pick a (pick b (Done 0 0) (Syscall (wakeOp NotFull) e)) (Syscall (wakeOp NotEmpty) n)))
   shut-ends true n s a h b k = corrupt s
   shut-ends false n s false h b k = shut-failed s h
   shut-ends false n s true h true k = shut s h k
   shut-ends false n s true h false k = shut-failed-last s h k
 
-  step-ends : (s : Step) → p .step ≡ s → Ends p v e (answerOf (moveAt s (p .own) (p .counter) (p .blocking) (p .length) v e))
+  step-ends : (s : Step) → p .step ≡ s → EndsWith p v e (answerOf (moveAt s (p .own) (p .counter) (p .blocking) (p .length) v e))
   unfolding moveOf lookMove copyMove publishMove checkMove wakeMove gateMove againMove waitMove closeMove shutMove
   step-ends Rest s = resting s
   step-ends Look s = look-ends s room-here refl (p .blocking) refl (p .own .side) refl
@@ -183,7 +183,7 @@ module _ (p : Party) (v e : ℕ) where
   step-ends (ShutRaiseNf c n) s = goes-on {s = ShutWakeNf c n} (rw s)
   step-ends (ShutWakeNf c n) s = shut-ends c n s (eqb n 0) refl (eqb e 0) refl
 
-  pub ends-first : Ends p v e (answerOf (moveOf p v e))
+  pub ends-first : EndsWith p v e (answerOf (moveOf p v e))
   unfolding moveOf
   ends-first = step-ends (p .step) refl
 

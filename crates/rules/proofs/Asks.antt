@@ -182,6 +182,16 @@ unfolding run
 fair-parts side [] ms w f = (tt, f)
 fair-parts side (h ∷ hs) ms w f = let u = fair-parts side hs ms (happens h w) (f .1) in ((f .0, u .0), u .1)
 
+-- and the parts make it
+pub typed-both : (hs ms : List Happening) → AllTyped hs → AllTyped ms → AllTyped (hs ++ ms)
+typed-both [] ms t u = u
+typed-both (h ∷ hs) ms t u = (t .0, typed-both hs ms (t .1) u)
+
+pub fair-both : (side : Side) (hs ms : List Happening) (w : World) → AllFair side hs w → AllFair side ms (run hs w) → AllFair side (hs ++ ms) w
+unfolding run
+fair-both side [] ms w f g = g
+fair-both side (h ∷ hs) ms w f g = (f .0, fair-both side hs ms (happens h w) (f .1) g)
+
 module _ (r : List ℕ) (P S : ℕ) (on : Bool) (v : ℕ) (fresh : Fresh r P S on v) where
   -- by any count, and whatever keeps the party awake
   bounded-by : (counted : Stance → Bool) → Count counted → (side : Side) (Keeps : List Happening → World → Type 0)

@@ -34,7 +34,7 @@ use Rattle.rules.specs.Calls.{pushSpec, popSpec, closeSpec, shutSpec, sp
 use Rattle.rules.specs.Bench.{settled, played, playedLeaves}
 use Rattle.rules.specs.Run.{World, Happening, attaches, plays, partyIn, takes, happens, run, begin}
 use Rattle.rules.specs.Premises.{Typed, AllTyped, AllFair}
-use Rattle.rules.specs.Stretch.{moves, calling, countsBy, tickBy, ticksBy, Does, AllOwn}
+use Rattle.rules.specs.Stretch.{moves, calling, countsBy, tickBy, ticksBy, OwnDoing, AllOwn}
 use Rattle.rules.specs.Claims.{Fresh, reached, Stopped, AtRest, EndsTicks, Ends}
 use Rattle.rules.proofs.After.{flagsBy}
 use Rattle.rules.proofs.Leads.{stopAt, Leads}
@@ -183,7 +183,7 @@ module _ (P S v : ℕ) (on : Bool) where
     turned w real side mover payload lent fault e y n d i =
         subst (λ (m : Side). Then side n (countsBy counted w m payload lent fault) (turnWorld w m payload lent fault)) (sym e) (turned-ends w real side payload lent fault y n d i)
 
-    ending-happens : (side : Side) (h : Happening) (w : World) → Typed h → Does side h → Real P S v on w → Rouses counted side w → (n : ℕ) → Ending side n w → (partyIn w side .step ≡ Rest → ⊥)
+    ending-happens : (side : Side) (h : Happening) (w : World) → Typed h → OwnDoing side h → Real P S v on w → Rouses counted side w → (n : ℕ) → Ending side n w → (partyIn w side .step ≡ Rest → ⊥)
         → Then side n (tickBy counted h w) (happens h w)
     unfolding happens played playedLeaves settled
     ending-happens side (attaches mover) w t m real y n d i = absurd m

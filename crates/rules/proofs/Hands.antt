@@ -1,6 +1,6 @@
 -- A turn keeps the rooms and what is in hand, of the party that moves and of the other, and the queue between them.
 use mathlib.Core.Path.{_≡_, refl, sym, ap, _∙_}
-use mathlib.Core.Bool.{Bool, true, false}
+use mathlib.Core.Bool.{Bool, true}
 use mathlib.Core.List.{List, [], _∷_, _++_}
 use Prim.Native.Nat.{ℕ, _+_, _-_, _<_, _≤_}
 use native.Mathlib.Omega.{arith}
@@ -26,35 +26,7 @@ use Rattle.rules.proofs.Does.{Does, nothing, looks, flags, reads as epo
 use Rattle.rules.proofs.Leads.{Leads, idles, finds, blocks, gives-up, copies, spills, tells, stores, owes, passes, raises, wakes, enters, stops, reads, finds-again, stays, enters-again, stops-again, sleeps, returns, ends, dreams, closes, closes-alone, close-raises, close-wakes, shuts, shut-raises, shut-wakes, shut-raises-again, shut-wakes-again}
 use Rattle.rules.proofs.Kept.{length-more}
 use Rattle.rules.proofs.Ring.{holds-kept, written-elsewhere, queue-still, queue-quiet, queue-sent, queue-got}
-use Rattle.rules.proofs.Real.{countOf, HasRoom, sizes, roomIn, nth, blank, HoldsAt, InHand, Fixed, Queue}
-
--- more room is room
-has-more : (ph : Phase) (k j : ℕ) → k ≤ j → HasRoom ph k → HasRoom ph j
-has-more resting k j q h = tt
-has-more looking k j q h = tt
-has-more copying k j q h = omega arith
-has-more (publishing l g) k j q h = omega arith
-has-more (telling l g) k j q h = tt
-has-more asking k j q h = tt
-has-more (armed e) k j q h = tt
-has-more (poised e) k j q h = tt
-has-more (waits e) k j q h = tt
-has-more asleep k j q h = tt
-has-more leaving k j q h = tt
-
--- a phase that has nothing in hand
-abbrev pub free : Phase → Bool
-free resting = true
-free looking = true
-free copying = true
-free (publishing l g) = false
-free (telling l g) = false
-free asking = true
-free (armed e) = true
-free (poised e) = true
-free (waits e) = true
-free asleep = true
-free leaving = true
+use Rattle.rules.proofs.Real.{countOf, HasRoom, sizes, roomIn, nth, blank, HoldsAt, InHand, Fixed, Queue, has-more, free}
 
 module _ (P S v : ℕ) (on : Bool) where
   pub in-hand-none : (side : Side) (ph : Phase) (r : List ℕ) (t : Trace) → T (free ph) → InHand P S v on side ph r t

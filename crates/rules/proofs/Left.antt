@@ -35,7 +35,7 @@ use Rattle.rules.specs.Take.{stanceOf, answerOf, stepAfter, closedAfter,
 use Rattle.rules.specs.Next.{slotAccess, nextAt, nextSpec}
 use Rattle.rules.specs.Access.{placeOf, slotOf, valueOf, leavesOf, copiedOut, bufferOf}
 use Rattle.rules.specs.Turn.{errorOf, taken, wokeOf, runSpec, runLeaves, runBuffer, turnSpec, turnLeaves, turnBuffer}
-use Rattle.rules.specs.Given.{Ends, published, checked, woke, closed-alone, closed, shut, corrupt, bad-slot, too-small, full, empty, left, left-again, down, down-again, late, wake-failed, close-failed, wait-failed, shut-failed, shut-failed-last, resting, asleep, goes-on, turn}
+use Rattle.rules.specs.Given.{EndsWith, published, checked, woke, closed-alone, closed, shut, corrupt, bad-slot, too-small, full, empty, left, left-again, down, down-again, late, wake-failed, close-failed, wait-failed, shut-failed, shut-failed-last, resting, asleep, goes-on, turn}
 use Rattle.rules.specs.Leaves.{Leaves}
 use Rattle.rules.proofs.HeadWords.{head-length}
 use Rattle.rules.proofs.Answered.{ends-only}
@@ -122,7 +122,7 @@ module _ (side : Side) (r : List ℕ) (p : Party) (i o : List ℕ) (f : Fault) (
   party-is = ap (λ (t : Turned). t .party) turn-is
 
   -- a settled turn leaves its party at rest
-  turn-rests : {x : Answer} → Ends p value (errorOf f) x → settles x ≡ true → turnSpec side r p i o f .party .step ≡ Rest
+  turn-rests : {x : Answer} → EndsWith p value (errorOf f) x → settles x ≡ true → turnSpec side r p i o f .party .step ≡ Rest
   unfolding made
   turn-rests {x} row t = ap (λ (q : Party). q .step) party-is ∙ rests-by (moveOf p value (errorOf f)) (p .step) x (ends-only row) t
 
@@ -156,7 +156,7 @@ module _ (side : Side) (r : List ℕ) (p : Party) (i o : List ℕ) (f : Fault) (
       let e : fitOf (headOf slot .length) (payloadCapacity (p .own .slot)) (p .length) ≡ t = rw l at h in
       looks-kept (ReadSlot (p .counter)) n refl (rw e c)
 
-  pub ends-leaves : {x : Answer} → ((j : ℕ) → getD r j 0 < 256) → Ends p value (errorOf f) x → Leaves x (turn side r p i o f)
+  pub ends-leaves : {x : Answer} → ((j : ℕ) → getD r j 0 < 256) → EndsWith p value (errorOf f) x → Leaves x (turn side r p i o f)
   unfolding leavesOf bufferOf moveOf
   ends-leaves k (published s q) = turn-rests (published s q) refl
   ends-leaves k (checked s b) = turn-rests (checked s b) refl

@@ -3,6 +3,7 @@ use mathlib.Core.Path.{_≡_}
 use mathlib.Core.Bool.{Bool, true, false}
 use mathlib.Core.List.{List, [], _∷_, _++_}
 use Prim.Native.Nat.{ℕ, _+_, _-_, _%_, _^_, _<_, _≤_}
+use native.Mathlib.Omega.{arith}
 use lib.ListN.{length, getD, take}
 use Rattle.words.specs.Le.{leAt}
 use Rattle.words.specs.Wrap.{plus}
@@ -38,6 +39,34 @@ HasRoom (poised e) k = Unit
 HasRoom (waits e) k = Unit
 HasRoom sleeps k = Unit
 HasRoom leaving k = Unit
+
+-- more room is room
+pub has-more : (ph : Phase) (k j : ℕ) → k ≤ j → HasRoom ph k → HasRoom ph j
+has-more resting k j q h = tt
+has-more looking k j q h = tt
+has-more copying k j q h = omega arith
+has-more (publishing l g) k j q h = omega arith
+has-more (telling l g) k j q h = tt
+has-more asking k j q h = tt
+has-more (armed e) k j q h = tt
+has-more (poised e) k j q h = tt
+has-more (waits e) k j q h = tt
+has-more sleeps k j q h = tt
+has-more leaving k j q h = tt
+
+-- a phase that has nothing in hand
+abbrev pub free : Phase → Bool
+free resting = true
+free looking = true
+free copying = true
+free (publishing l g) = false
+free (telling l g) = false
+free asking = true
+free (armed e) = true
+free (poised e) = true
+free (waits e) = true
+free sleeps = true
+free leaving = true
 
 -- one that carries an epoch knows how often its bell was raised since, wrapped
 abbrev pub Since : Phase → (bell rung : ℕ) → Type 0

@@ -25,8 +25,8 @@ use Rattle.rules.specs.Phase.{phase}
 use Rattle.rules.proofs.Refusals.{ready-rests}
 use Rattle.rules.proofs.Seats.{sleeping-step}
 use Rattle.rules.proofs.RealTurn.{both-sides}
-use Rattle.rules.proofs.Hands.{free, in-hand-none}
-use Rattle.rules.proofs.Real.{HasRoom, Since, Side-good, Real}
+use Rattle.rules.proofs.Hands.{in-hand-none}
+use Rattle.rules.proofs.Real.{HasRoom, Since, Side-good, Real, free}
 
 -- a step that relies on nothing
 pub data Idle : Step → Type 0 where

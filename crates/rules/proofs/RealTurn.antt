@@ -42,7 +42,7 @@ use Rattle.rules.proofs.After.{bell-after, bell-by-small}
 use Rattle.rules.proofs.Kept.{header-in, fixed-kept, counts-own, counts-other, word-own, word-other}
 use Rattle.rules.proofs.Seats.{moved, Roused, roused, roused-elim, seated-own, seated-other, since-own, since-other}
 use Rattle.rules.proofs.Hands.{in-hand-none, queue-kept, room-own, room-other, hand-own, hand-other}
-use Rattle.rules.proofs.Copies.{copy-written, copy-read}
+use Rattle.rules.proofs.Copies.{copy-written, copy-read, is-copy}
 use Rattle.rules.proofs.Taken.{turnWorld, turn-refused, seat-own, seat-other, turn-taken, attached-here, length-ok, lent-ok}
 use Rattle.rules.proofs.Real.{countOf, HasRoom, Since, sizes, roomIn, nth, InHand, Queue, Side-good, Real}
 
@@ -52,30 +52,6 @@ both-sides Sender F x y Sender = x
 both-sides Sender F x y Recorder = y
 both-sides Recorder F x y Sender = y
 both-sides Recorder F x y Recorder = x
-
--- a step is the copy or is not
-pub is-copy : (s : Step) → (s ≡ Copy) ⊎ (s ≡ Copy → ⊥)
-is-copy Rest = inr (λ e. let z : _≡_ {A = ℕ} 0 1 = cc in omega arith)
-is-copy Look = inr (λ e. let z : _≡_ {A = ℕ} 0 1 = cc in omega arith)
-is-copy Copy = inl refl
-is-copy (Publish l g) = inr (λ e. let z : _≡_ {A = ℕ} 0 1 = cc in omega arith)
-is-copy (Check l g) = inr (λ e. let z : _≡_ {A = ℕ} 0 1 = cc in omega arith)
-is-copy (Raise l g) = inr (λ e. let z : _≡_ {A = ℕ} 0 1 = cc in omega arith)
-is-copy (Wake l g) = inr (λ e. let z : _≡_ {A = ℕ} 0 1 = cc in omega arith)
-is-copy Gate = inr (λ e. let z : _≡_ {A = ℕ} 0 1 = cc in omega arith)
-is-copy Epoch = inr (λ e. let z : _≡_ {A = ℕ} 0 1 = cc in omega arith)
-is-copy (Again n) = inr (λ e. let z : _≡_ {A = ℕ} 0 1 = cc in omega arith)
-is-copy (GateAgain n) = inr (λ e. let z : _≡_ {A = ℕ} 0 1 = cc in omega arith)
-is-copy (Wait n) = inr (λ e. let z : _≡_ {A = ℕ} 0 1 = cc in omega arith)
-is-copy Asleep = inr (λ e. let z : _≡_ {A = ℕ} 0 1 = cc in omega arith)
-is-copy CloseSet = inr (λ e. let z : _≡_ {A = ℕ} 0 1 = cc in omega arith)
-is-copy CloseRaise = inr (λ e. let z : _≡_ {A = ℕ} 0 1 = cc in omega arith)
-is-copy CloseWake = inr (λ e. let z : _≡_ {A = ℕ} 0 1 = cc in omega arith)
-is-copy (ShutSet q) = inr (λ e. let z : _≡_ {A = ℕ} 0 1 = cc in omega arith)
-is-copy (ShutRaiseNe q) = inr (λ e. let z : _≡_ {A = ℕ} 0 1 = cc in omega arith)
-is-copy (ShutWakeNe q) = inr (λ e. let z : _≡_ {A = ℕ} 0 1 = cc in omega arith)
-is-copy (ShutRaiseNf q n) = inr (λ e. let z : _≡_ {A = ℕ} 0 1 = cc in omega arith)
-is-copy (ShutWakeNf q n) = inr (λ e. let z : _≡_ {A = ℕ} 0 1 = cc in omega arith)
 
 module _ (P S v : ℕ) (on : Bool) (power-ok : powerOk P ≡ true) (slot-ok : slotOk S ≡ true) where
   -- what the counters, the flags and the bell tell a side

@@ -24,7 +24,7 @@ use Rattle.rules.specs.Next.{nextAt}
 use Rattle.rules.specs.Access.{bufferOf}
 use Rattle.rules.specs.Calls.{sound, ready, at, named, pushSpec, popSpec, spuriousSpec}
 use Rattle.rules.specs.Bench.{settled, played, playedLeaves}
-use Rattle.rules.specs.Run.{Note, Trace, World, Happening, plays, partyIn, takes, traced, happens, run, begin, rungOf}
+use Rattle.rules.specs.Run.{Note, Trace, World, Happening, plays, partyIn, takes, traced, happens, begin, rungOf}
 use Rattle.rules.specs.Premises.{Typed, AllTyped, Fair, AllFair}
 use Rattle.rules.specs.Stretch.{moves, tickBy, ticks, Wills, Willing, beforeCopy, holdsEpoch}
 use Rattle.rules.specs.Claims.{Fresh, reached, Lasts}
@@ -40,7 +40,7 @@ use Rattle.rules.proofs.Costs.{Calls, calls-on}
 use Rattle.rules.proofs.Effects.{rung-own}
 use Rattle.rules.proofs.Listening.{mover-is, trace-is}
 use Rattle.rules.proofs.Bound.{Kind, rests, dreams as asleep, acts, kind, notes-kept}
-use Rattle.rules.proofs.Asks.{in-call}
+use Rattle.rules.proofs.Asks.{in-call, typed-both, fair-both}
 use Rattle.rules.proofs.Sized.{blankOf, Sized, sized-turn, sized-happens, sized-run, sized-start, nothing-fits, sound-here, takes-here}
 use Rattle.rules.proofs.Real.{roomIn, nth, blank, Real}
 use Rattle.rules.proofs.Lasts.{BigFine, EpochFine, before-on, big-turn, both-notes, counts-anew, epoch-on, fair-turn, own-notes, stays-open, under-way}
@@ -279,16 +279,6 @@ module _ (P S v : ℕ) (on : Bool) (power-ok : powerOk P ≡ true) (slot-ok : sl
       by s e rests go = two-more side n go w (ask side) (ask-now side w a e) (ap (λ (x : Party). moves (stanceOf (x .step))) (ask-party side w a e))
       by s e asleep go = two-more side n go w (plays (Spurious side) [] []) (wake-now side w a e) (ap (λ (x : Party). moves (stanceOf (x .step))) (wake-party side w a e))
       by s e (acts move) go = one-more side n go w a (ap (λ (x : Step). moves (stanceOf x)) e ∙ move)
-
--- two parts make a run
-typed-both : (hs ms : List Happening) → AllTyped hs → AllTyped ms → AllTyped (hs ++ ms)
-typed-both [] ms t u = u
-typed-both (h ∷ hs) ms t u = (t .0, typed-both hs ms (t .1) u)
-
-fair-both : (side : Side) (hs ms : List Happening) (w : World) → AllFair side hs w → AllFair side ms (run hs w) → AllFair side (hs ++ ms) w
-unfolding run
-fair-both side [] ms w f g = g
-fair-both side (h ∷ hs) ms w f g = (f .0, fair-both side hs ms (happens h w) (f .1) g)
 
 module _ (r : List ℕ) (P S : ℕ) (on : Bool) (v : ℕ) (fresh : Fresh r P S on v) where
   pub lasts : (side : Side) → Lasts r P S on v side

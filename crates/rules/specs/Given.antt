@@ -39,40 +39,40 @@ pub data Checked : List Check → Answer → Type 0 where
   holds : {b : Bool} {a x : Answer} {cs : List Check} → b ≡ true → Checked cs x → Checked (check b a ∷ cs) x
 
 -- the turn of a party that is refused by nothing; v is what its access gives back, e the announced error (0: none)
-pub data Ends (p : Party) (v e : ℕ) : Answer → Type 0 where
+pub data EndsWith (p : Party) (v e : ℕ) : Answer → Type 0 where
   -- 0
-  published : {l t : ℕ} → p .step ≡ Publish l t → rings (p .own .side) (p .own .notfull) ≡ false → Ends p v e (Done l t)
-  checked : {l t : ℕ} → p .step ≡ Checking l t → wasBlocked (p .own .side) (capacity (p .own .power)) (p .counter) v ≡ false → Ends p v e (Done l t)
-  woke : {l t : ℕ} → p .step ≡ Wake l t → eqb e 0 ≡ true → Ends p v e (Done l t)
-  closed-alone : p .step ≡ CloseSet → rings (p .own .side) (p .own .notfull) ≡ false → Ends p v e (Done 0 0)
-  closed : p .step ≡ CloseWake → eqb e 0 ≡ true → Ends p v e (Done 0 0)
-  shut : {first : ℕ} → p .step ≡ ShutWakeNf false first → eqb first 0 ≡ true → eqb e 0 ≡ true → Ends p v e (Done 0 0)
+  published : {l t : ℕ} → p .step ≡ Publish l t → rings (p .own .side) (p .own .notfull) ≡ false → EndsWith p v e (Done l t)
+  checked : {l t : ℕ} → p .step ≡ Checking l t → wasBlocked (p .own .side) (capacity (p .own .power)) (p .counter) v ≡ false → EndsWith p v e (Done l t)
+  woke : {l t : ℕ} → p .step ≡ Wake l t → eqb e 0 ≡ true → EndsWith p v e (Done l t)
+  closed-alone : p .step ≡ CloseSet → rings (p .own .side) (p .own .notfull) ≡ false → EndsWith p v e (Done 0 0)
+  closed : p .step ≡ CloseWake → eqb e 0 ≡ true → EndsWith p v e (Done 0 0)
+  shut : {first : ℕ} → p .step ≡ ShutWakeNf false first → eqb first 0 ≡ true → eqb e 0 ≡ true → EndsWith p v e (Done 0 0)
   -- 7
-  corrupt : {first : ℕ} → p .step ≡ ShutWakeNf true first → Ends p v e CorruptIndices
+  corrupt : {first : ℕ} → p .step ≡ ShutWakeNf true first → EndsWith p v e CorruptIndices
   -- 8, 15
-  bad-slot : p .step ≡ Copy → p .own .side ≡ Recorder → fitOf (headLength v) (payloadCapacity (p .own .slot)) (p .length) ≡ Bad → Ends p v e CorruptSlot
-  too-small : p .step ≡ Copy → p .own .side ≡ Recorder → fitOf (headLength v) (payloadCapacity (p .own .slot)) (p .length) ≡ Small → Ends p v e (OutputTooSmall (headLength v))
+  bad-slot : p .step ≡ Copy → p .own .side ≡ Recorder → fitOf (headLength v) (payloadCapacity (p .own .slot)) (p .length) ≡ Bad → EndsWith p v e CorruptSlot
+  too-small : p .step ≡ Copy → p .own .side ≡ Recorder → fitOf (headLength v) (payloadCapacity (p .own .slot)) (p .length) ≡ Small → EndsWith p v e (OutputTooSmall (headLength v))
   -- 9, 10
-  full : p .step ≡ Look → p .own .side ≡ Sender → p .blocking ≡ false → roomOf Sender (capacity (p .own .power)) (p .counter) v ≡ Stuck → Ends p v e Full
-  empty : p .step ≡ Look → p .own .side ≡ Recorder → p .blocking ≡ false → roomOf Recorder (capacity (p .own .power)) (p .counter) v ≡ Stuck → Ends p v e Empty
+  full : p .step ≡ Look → p .own .side ≡ Sender → p .blocking ≡ false → roomOf Sender (capacity (p .own .power)) (p .counter) v ≡ Stuck → EndsWith p v e Full
+  empty : p .step ≡ Look → p .own .side ≡ Recorder → p .blocking ≡ false → roomOf Recorder (capacity (p .own .power)) (p .counter) v ≡ Stuck → EndsWith p v e Empty
   -- 11, 12
-  left : p .step ≡ Gate → doorOf (p .own .side) v ≡ Left → Ends p v e Closed
-  left-again : {epoch : ℕ} → p .step ≡ GateAgain epoch → doorOf (p .own .side) v ≡ Left → Ends p v e Closed
-  down : p .step ≡ Gate → doorOf (p .own .side) v ≡ Shut → Ends p v e Shutdown
-  down-again : {epoch : ℕ} → p .step ≡ GateAgain epoch → doorOf (p .own .side) v ≡ Shut → Ends p v e Shutdown
+  left : p .step ≡ Gate → doorOf (p .own .side) v ≡ Left → EndsWith p v e Closed
+  left-again : {epoch : ℕ} → p .step ≡ GateAgain epoch → doorOf (p .own .side) v ≡ Left → EndsWith p v e Closed
+  down : p .step ≡ Gate → doorOf (p .own .side) v ≡ Shut → EndsWith p v e Shutdown
+  down-again : {epoch : ℕ} → p .step ≡ GateAgain epoch → doorOf (p .own .side) v ≡ Shut → EndsWith p v e Shutdown
   -- 13
-  late : {epoch : ℕ} → p .step ≡ Wait epoch → napOf e (eqb v epoch) ≡ Late → Ends p v e Timeout
+  late : {epoch : ℕ} → p .step ≡ Wait epoch → napOf e (eqb v epoch) ≡ Late → EndsWith p v e Timeout
   -- 17: its operation and its error
-  wake-failed : {l t : ℕ} → p .step ≡ Wake l t → eqb e 0 ≡ false → Ends p v e (Syscall (wakeOp (ringBell (p .own .side))) e)
-  close-failed : p .step ≡ CloseWake → eqb e 0 ≡ false → Ends p v e (Syscall (wakeOp (ringBell (p .own .side))) e)
-  wait-failed : {epoch : ℕ} → p .step ≡ Wait epoch → napOf e (eqb v epoch) ≡ Fails → Ends p v e (Syscall (waitOp (sleepBell (p .own .side))) e)
-  shut-failed : {first : ℕ} → p .step ≡ ShutWakeNf false first → eqb first 0 ≡ false → Ends p v e (Syscall (wakeOp NotEmpty) first)
-  shut-failed-last : {first : ℕ} → p .step ≡ ShutWakeNf false first → eqb first 0 ≡ true → eqb e 0 ≡ false → Ends p v e (Syscall (wakeOp NotFull) e)
+  wake-failed : {l t : ℕ} → p .step ≡ Wake l t → eqb e 0 ≡ false → EndsWith p v e (Syscall (wakeOp (ringBell (p .own .side))) e)
+  close-failed : p .step ≡ CloseWake → eqb e 0 ≡ false → EndsWith p v e (Syscall (wakeOp (ringBell (p .own .side))) e)
+  wait-failed : {epoch : ℕ} → p .step ≡ Wait epoch → napOf e (eqb v epoch) ≡ Fails → EndsWith p v e (Syscall (waitOp (sleepBell (p .own .side))) e)
+  shut-failed : {first : ℕ} → p .step ≡ ShutWakeNf false first → eqb first 0 ≡ false → EndsWith p v e (Syscall (wakeOp NotEmpty) first)
+  shut-failed-last : {first : ℕ} → p .step ≡ ShutWakeNf false first → eqb first 0 ≡ true → eqb e 0 ≡ false → EndsWith p v e (Syscall (wakeOp NotFull) e)
   -- 253
-  resting : p .step ≡ Rest → Ends p v e Nothing
-  asleep : p .step ≡ Asleep → Ends p v e Nothing
+  resting : p .step ≡ Rest → EndsWith p v e Nothing
+  asleep : p .step ≡ Asleep → EndsWith p v e Nothing
   -- 255: the call runs on
-  goes-on : {s : Step} → moveOf p v e ≡ To s → Ends p v e GoesOn
+  goes-on : {s : Step} → moveOf p v e ≡ To s → EndsWith p v e GoesOn
 
 -- whatever gives an answer, with all that it is given
 pub data Ask : Type 0 where
@@ -113,7 +113,7 @@ pub data Given : Ask → Answer → Type 0 where
   timeout-taken : {side : Side} {p : Party} → sound side p ≡ true → isSleeping (stanceOf (p .step)) ≡ true → Given (timeout side p) Timeout
   -- the rest, by the step
   turn-taken : {side : Side} {r : List ℕ} {p : Party} {i o : List ℕ} {f : Fault} {x : Answer}
-      → taken side r p i o f ≡ true → Ends p (valueOf r (p .own) (nextSpec p)) (errorOf f) x → Given (turn side r p i o f) x
+      → taken side r p i o f ≡ true → EndsWith p (valueOf r (p .own) (nextSpec p)) (errorOf f) x → Given (turn side r p i o f) x
 
 -- what is answered
 abbrev pub answered : Ask → Answer

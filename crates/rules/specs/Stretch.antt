@@ -66,20 +66,20 @@ abbrev pub beats : List Happening → World → ℕ
 beats = ticksBy calling
 
 -- what a party does itself
-abbrev pub Does : Side → Happening → Type 0
-Does side (attaches other) = ⊥
-Does side (plays (Turn mover) payload lent) = mover ≡ side
-Does side (plays (Failing mover error) payload lent) = mover ≡ side
-Does side (plays (Spurious mover) payload lent) = mover ≡ side
-Does side (plays (TimeOut mover) payload lent) = mover ≡ side
-Does side (plays (Push blocking tag length) payload lent) = side ≡ Sender
-Does side (plays (Pop blocking length) payload lent) = side ≡ Recorder
-Does side (plays (Close mover) payload lent) = mover ≡ side
-Does side (plays (Shutdown mover) payload lent) = mover ≡ side
+abbrev pub OwnDoing : Side → Happening → Type 0
+OwnDoing side (attaches other) = ⊥
+OwnDoing side (plays (Turn mover) payload lent) = mover ≡ side
+OwnDoing side (plays (Failing mover error) payload lent) = mover ≡ side
+OwnDoing side (plays (Spurious mover) payload lent) = mover ≡ side
+OwnDoing side (plays (TimeOut mover) payload lent) = mover ≡ side
+OwnDoing side (plays (Push blocking tag length) payload lent) = side ≡ Sender
+OwnDoing side (plays (Pop blocking length) payload lent) = side ≡ Recorder
+OwnDoing side (plays (Close mover) payload lent) = mover ≡ side
+OwnDoing side (plays (Shutdown mover) payload lent) = mover ≡ side
 
 abbrev pub AllOwn : Side → List Happening → Type 0
 AllOwn side [] = Unit
-AllOwn side (h ∷ hs) = Does side h × AllOwn side hs
+AllOwn side (h ∷ hs) = OwnDoing side h × AllOwn side hs
 
 -- big enough: a pop's copy is named a buffer at least as long as the note that it comes to
 abbrev pub Big : Side → World → Type 0
