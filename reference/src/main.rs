@@ -55,7 +55,7 @@ usage:
       numbers that show that it stands; `list` names the premises
       (both end with status 1 if it does not come out as docs/NEEDED.md says)
   reference cases script > SCRIPT
-      writes the cases that the program `cases` plays, as records of 16 bytes
+      writes the cases that the program `cases` plays, as records of 24 bytes
   reference cases report > REPORT
       plays them, and writes the report of 28 bytes that must come of each
   reference cases read

@@ -2,213 +2,150 @@
 // starts, regions damaged between turns, records out of their limits. The rules are the libraries': here a record is
 // taken apart, a library is called, and what came of it is summed up.
 ghost use Prim.Native.Nat.{_+_, _≤_};
+ghost use Rattle.io.specs.Counts.{Counts};
 
-mod spoils;
-mod stage;
+mod acts;
 mod sums;
 
 use libc::STDERR_FILENO;
 use libc::STDIN_FILENO;
 use libc::STDOUT_FILENO;
-use stage::Acted;
-use stage::Stage;
+use types::Answer;
 use types::Bench;
-use types::Event;
+use types::Party;
+use types::Played;
 use types::Side;
-use types::Told;
 
 // No input takes as many reads: the loop ends where the input does.
 const READS: u64 = 0x4000_0000_0000_0000;
 
-// Room for the regions that are played, and for the largest payload and buffer.
-const REGION: usize = 65536;
+const CASE: usize = 24;
 
-const ROOM: usize = 4096;
+// A report: kind, number, tag, length and error of the answer; for either party its step and the sum of its record; the
+// sums of region and buffer.
+const REPORT: usize = 32;
 
-// A case record: kind, part, tag, number and value. A report: kind, answer, tag, length, error, both steps, how many
-// values of a sweep were accepted, and the sums of region, buffer, parties and sweep.
-const CASE: usize = 16;
+const ROOM: u32 = 4096;
 
-const REPORT: usize = 28;
-
-// How a record leaves both parties and what is lent, and whether another is to be read.
-struct Next {
-    stage: Stage,
-    on: bool,
+// A case record, and how many of its bytes were read. What kind, part, tag, number and value mean goes by the kind; the
+// others are how much of region, payload and buffer is lent.
+struct Case {
+    got: usize,
+    kind: u8,
+    part: u8,
+    tag: u16,
+    number: u32,
+    value: u64,
+    region: u32,
+    lent: u32,
 }
 
-fn event_of(kind: u8, side: Side, on: bool, tag: u16, number: u32) -> Event {
-    match kind {
-        0 => Event::Turn(side),
-        1 => Event::Failing(side, tag),
-        2 => Event::Spurious(side),
-        3 => Event::TimeOut(side),
-        4 => Event::Push(on, tag, number),
-        5 => Event::Pop(on, number),
-        6 => Event::Close(side),
-        _ => Event::Shutdown(side),
+// As much of a slice as is asked for, and no more than there is.
+fn within(length: u32, s: &[u8]) -> usize
+    ensures { λ r. ⌜ Counts r (now (s .entry)) ⌝ }
+    ensures { λ r. ⌜ r ≤ length ⌝ }
+{
+    reports::least(length as usize, s.len())
+}
+
+fn case_of(got: usize, head: u64, value: u64, sizes: u64) -> Case {
+    Case {
+        got,
+        kind: (head % 0x100) as u8,
+        part: (head / 0x100 % 0x100) as u8,
+        tag: (head / 0x1_0000 % 0x1_0000) as u16,
+        number: (head / 0x1_0000_0000) as u32,
+        value,
+        region: (sizes % 0x1_0000_0000) as u32,
+        lent: (sizes / 0x1_0000_0000) as u32,
     }
 }
 
-// What a record asks is done.
-fn act(
-    region: &mut [u8; REGION],
-    kept: &mut [u8; REGION],
-    payload: &mut [u8; ROOM],
-    buffer: &mut [u8; ROOM],
-    given: &[u8; CASE],
-    s: Stage,
-) -> Acted {
-    let kind = words::load8(given, 0);
-    let part = words::load8(given, 1);
-    let tag = words::load16(given, 2);
-    let number = words::load32(given, 4);
-    let value = words::load64(given, 8);
-    let side = records::side_of(part);
-    let on = part % 2 == 1;
-    let power = (tag % 256) as u8;
-    match kind {
-        0..=7 => {
-            let e = event_of(kind, side, on, tag, number);
-            stage::play_event(region, payload, buffer, s, e)
-        }
-        8 => stage::join(region, s, side),
-        9 => stage::make(region, s, power, number, on, value),
-        10 => stage::sweep(region, kept, s, side, number),
-        11 => stage::renew(region, payload, buffer),
-        12 => stage::lend(s, part, number),
-        13 => stage::put(region, s, part, number, value),
-        14 => stage::keep(region, kept, s),
-        15 => spoils::spoil(s, side, tag, value),
-        _ => stage::refused(s),
+// The input has ended: what is left of it is a cut record.
+fn finish(got: usize) {
+    if 0 < got {
+        io::write_all(STDERR_FILENO, b"cases: the last record is cut\n");
     }
 }
 
-fn tell8(out: &mut [u8; REPORT], at: usize, x: u8)
-    requires { ⌜ at + 1 ≤ 28 ⌝ }
-{
-    words::store8(out, at, x);
+fn read_case() -> Case {
+    let mut given = [0xFFu8; CASE];
+    let got = io::read_full(STDIN_FILENO, &mut given);
+    case_of(
+        got,
+        words::load64(&given, 0),
+        words::load64(&given, 8),
+        words::load64(&given, 16),
+    )
 }
 
-fn tell16(out: &mut [u8; REPORT], at: usize, x: u16)
-    requires { ⌜ at + 2 ≤ 28 ⌝ }
-{
-    words::store16(out, at, x);
-}
-
-fn tell32(out: &mut [u8; REPORT], at: usize, x: u32)
-    requires { ⌜ at + 4 ≤ 28 ⌝ }
-{
-    words::store32(out, at, x);
-}
-
-fn tell_answer(out: &mut [u8; REPORT], kind: u8, told: Told) {
-    tell8(out, 0, kind);
-    tell8(out, 1, told.number);
-    tell16(out, 2, told.tag);
-    tell16(out, 4, told.length);
-    tell16(out, 6, told.error);
-}
-
-fn tell_parties(out: &mut [u8; REPORT], bench: Bench) {
-    let sender = bench.sender;
-    let recorder = bench.recorder;
-    let one = sender.step;
-    let other = recorder.step;
-    let first = sums::stand_of(one);
-    let second = sums::stand_of(other);
-    tell8(out, 8, first.step);
-    tell8(out, 9, second.step);
-    tell32(
-        out,
-        20,
-        sums::mix_party(sums::mix_party(0, sender), recorder),
-    );
-}
-
-fn tell_bytes(out: &mut [u8; REPORT], region: &[u8], buffer: &[u8], length: usize) {
-    let r = stage::within(length, region);
-    tell32(out, 12, sums::mix_bytes(0, &region[..r]));
-    tell32(out, 16, sums::mix_bytes(0, buffer));
-}
-
-// A report shows what came of a record, where both parties stand, and sums of all that may have changed.
-fn report(
-    out: &mut [u8; REPORT],
-    given: &[u8; CASE],
-    a: Acted,
-    region: &[u8; REGION],
-    buffer: &[u8; ROOM],
-) {
-    let s = a.stage;
-    let tries = a.tries;
-    let told = a.told;
-    let bench = s.bench;
-    tell_answer(out, words::load8(given, 0), told);
-    tell_parties(out, bench);
-    tell_bytes(out, region, buffer, s.region);
-    tell16(out, 10, tries.accepted);
-    tell32(out, 24, tries.sum);
-}
-
-// False, with a message, where the report cannot be written.
-fn tell(out: &[u8; REPORT]) -> bool {
-    let told = io::write_all(STDOUT_FILENO, out);
+fn tell(answer: u64, sender: u64, recorder: u64, bytes: u64) -> bool {
+    let mut out = [0u8; REPORT];
+    words::store64(&mut out, 0, answer);
+    words::store64(&mut out, 8, sender);
+    words::store64(&mut out, 16, recorder);
+    words::store64(&mut out, 24, bytes);
+    let told = io::write_all(STDOUT_FILENO, &out);
     if !told {
         os::fail(b"cases: standard output");
     }
     told
 }
 
-fn read_case(given: &mut [u8; CASE]) -> usize {
-    io::read_full(STDIN_FILENO, given)
+fn bytes_word(region: &[u8], buffer: &[u8], length: u32) -> u64 {
+    let r = within(length, region);
+    sums::pair(sums::mix_bytes(0, &region[..r]), sums::mix_bytes(0, buffer))
 }
 
-fn finish(got: usize) {
-    if 0 < got {
-        io::write_all(
-            STDERR_FILENO,
-            b"cases: the last record is cut, 16 bytes were expected\n",
-        );
-    }
+fn tell_all(kind: u8, answer: Answer, both: Bench, bytes: u64) -> bool {
+    let sender = both.sender;
+    let recorder = both.recorder;
+    tell(
+        sums::told_word(kind, answer.told()),
+        sums::party_word(sender),
+        sums::party_word(recorder),
+        bytes,
+    )
 }
 
-// The next record, played and reported. Nothing comes next where the input ends or a report cannot be written.
-fn play_next(
-    region: &mut [u8; REGION],
-    kept: &mut [u8; REGION],
-    payload: &mut [u8; ROOM],
-    buffer: &mut [u8; ROOM],
-    s: Stage,
-) -> Next {
-    let mut given = [0u8; CASE];
-    let mut out = [0u8; REPORT];
-    let got = read_case(&mut given);
-    if got < CASE {
-        finish(got);
-        return Next {
-            stage: s,
-            on: false,
-        };
+// False where no record is left to report, or the report cannot be written.
+fn report(c: Case, s: Played, bytes: u64) -> bool {
+    if c.got < CASE {
+        finish(c.got);
+        return false;
     }
-    let a = act(region, kept, payload, buffer, &given, s);
-    let stage = a.stage;
-    report(&mut out, &given, a, region, buffer);
-    let on = tell(&out);
-    Next { stage, on }
+    let answer = s.answer;
+    tell_all(c.kind, answer, s.bench, bytes)
+}
+
+// A region of no bytes is refused, and gives the record of a party not attached.
+fn stranger(side: Side) -> Party {
+    let mut none = [0u8; 0];
+    let reply = attach::attach(&mut none, side);
+    reply.party
+}
+
+fn opened() -> Played {
+    let sender = stranger(Side::Sender);
+    let recorder = stranger(Side::Recorder);
+    let bench = Bench { sender, recorder };
+    Played {
+        bench,
+        answer: Answer::Nothing,
+    }
 }
 
 fn main() {
     let mut region = io::large_buffer();
-    let mut kept = io::large_buffer();
     let mut payload = io::buffer();
-    let mut buffer = io::buffer();
-    let mut s = stage::opened();
+    let mut s = opened();
     let mut reads: u64 = 0;
+    acts::put(&mut payload, 0, ROOM, 0x4847_4645_4443_4241);
     while reads < READS {
-        let next = play_next(&mut region, &mut kept, &mut payload, &mut buffer, s);
-        s = next.stage;
-        if !next.on {
+        let c = read_case();
+        let mut buffer = io::buffer();
+        s = acts::act(&mut region, &payload, &mut buffer, s.bench, c);
+        if !report(c, s, bytes_word(&region, &buffer, c.region)) {
             return;
         }
         reads += 1;

@@ -1,6 +1,8 @@
 //! A case: a name that says which place of document 01 it plays, and its records.
 
-use crate::cases::record::{Ask, Part};
+use crate::cases::record::{Ask, Part, Record};
+use crate::cases::stage::Stage;
+use crate::header::Header;
 use crate::party::Side;
 use crate::region;
 
@@ -33,6 +35,14 @@ impl Ring {
         region::total_size(self.power, self.slot_size) as u32
     }
 
+    /// The flags of such a region before anybody attached.
+    pub fn flags(self) -> u32 {
+        match self.not_full {
+            true => Header::INITIALISED | Header::NOT_FULL_ON,
+            false => Header::INITIALISED,
+        }
+    }
+
     pub fn create(self) -> Ask {
         Ask::Create {
             power: self.power,
@@ -47,34 +57,71 @@ impl Ring {
 #[derive(Clone, Debug)]
 pub struct Case {
     pub name: String,
-    pub asks: Vec<Ask>,
+    pub records: Vec<Record>,
+    /// What is lent to the records that follow.
+    region: u32,
+    payload: u32,
+    buffer: u32,
 }
 
 impl Case {
+    /// The pattern lets a byte that is written, or left alone, show. It stops a byte short of
+    /// the region's room, where no ring reaches.
+    const PATTERN: Ask = Ask::Put {
+        at: 0,
+        count: u16::MAX,
+        value: 0xBAB7_B4B1_AEAB_A8A5,
+    };
+
+    /// Two strangers, since an attach to no bytes is refused, and a region of no ring.
     pub fn new(name: impl Into<String>) -> Self {
-        Case {
+        let case = Case {
             name: name.into(),
-            asks: vec![Ask::Renew],
-        }
+            records: Vec::new(),
+            region: 0,
+            payload: 0,
+            buffer: 0,
+        };
+        case.asks(SIDES.map(Ask::Attach))
+            .lend(Part::Region, Stage::REGION as u32)
+            .ask(Case::PATTERN)
+            .lend(Part::Region, 0)
     }
 
     /// A fresh region with both parties attached.
     pub fn on(name: impl Into<String>, ring: Ring) -> Self {
         Case::new(name)
-            .ask(Ask::Lend(Part::Region, ring.total()))
+            .lend(Part::Region, ring.total())
             .ask(ring.create())
-            .ask(Ask::Attach(Side::Sender))
-            .ask(Ask::Attach(Side::Recorder))
+            .asks(SIDES.map(Ask::Attach))
+    }
+
+    /// From now on so many bytes are lent.
+    pub fn lend(mut self, part: Part, length: u32) -> Self {
+        match part {
+            Part::Region => self.region = length,
+            Part::Payload => self.payload = length,
+            Part::Buffer => self.buffer = length,
+        }
+        self
     }
 
     pub fn ask(mut self, ask: Ask) -> Self {
-        self.asks.push(ask);
+        let lent = match ask.actor() {
+            Some(Side::Sender) => self.payload,
+            Some(Side::Recorder) => self.buffer,
+            None => 0,
+        };
+        self.records.push(Record {
+            ask,
+            region: self.region,
+            lent,
+        });
         self
     }
 
-    pub fn asks(mut self, asks: impl IntoIterator<Item = Ask>) -> Self {
-        self.asks.extend(asks);
-        self
+    pub fn asks(self, asks: impl IntoIterator<Item = Ask>) -> Self {
+        asks.into_iter().fold(self, Case::ask)
     }
 
     pub fn turns(self, side: Side, count: usize) -> Self {
@@ -83,7 +130,7 @@ impl Case {
 
     /// Begins a push that is lent what it names.
     pub fn push(self, blocking: bool, tag: u16, length: u32) -> Self {
-        self.ask(Ask::Lend(Part::Payload, length)).ask(Ask::Push {
+        self.lend(Part::Payload, length).ask(Ask::Push {
             blocking,
             tag,
             length,
@@ -92,7 +139,7 @@ impl Case {
 
     /// Begins a pop that is lent what it names.
     pub fn pop(self, blocking: bool, length: u32) -> Self {
-        self.ask(Ask::Lend(Part::Buffer, length))
+        self.lend(Part::Buffer, length)
             .ask(Ask::Pop { blocking, length })
     }
 
@@ -126,10 +173,10 @@ impl Case {
         self
     }
 
-    pub fn put(self, at: usize, width: u8, value: u64) -> Self {
+    pub fn put(self, at: usize, count: u16, value: u64) -> Self {
         self.ask(Ask::Put {
             at: at as u32,
-            width,
+            count,
             value,
         })
     }

@@ -154,7 +154,7 @@ fn counters_seen_at_publish() -> Case {
         .turns(Recorder, 3)
         .put(Header::AT_HEAD, 8, 2)
         .turns(Recorder, 3)
-        .ask(Ask::Lend(Part::Payload, 0))
+        .lend(Part::Payload, 0)
 }
 
 /// A bell at the end of its range is raised by a push, by a close and by a shutdown.

@@ -1,7 +1,7 @@
 //! Cases of answer 20: each of its grounds, at rest, in a call and asleep.
 
 use crate::cases::case::{Case, Ring, SIDES};
-use crate::cases::record::{Ask, Field, Part};
+use crate::cases::record::{Ask, Part, Terms};
 use crate::party::Side;
 use Side::{Recorder, Sender};
 
@@ -82,56 +82,61 @@ fn entries(side: Side) -> [Ask; 8] {
 
 fn nobody_attached() -> Case {
     Case::new("Answer 20: party not attached")
-        .ask(Ask::Lend(Part::Region, Ring::SMALL.total()))
+        .lend(Part::Region, Ring::SMALL.total())
         .ask(Ring::SMALL.create())
         .asks(SIDES.into_iter().flat_map(entries))
 }
 
-/// Each field out of its limits, and then as it was. The good values are those of the ring and
-/// of the calls that a stance is reached by.
-fn spoiled(side: Side, stance: Stance) -> Case {
-    let good_length = match (side, stance) {
-        (Recorder, Stance::Rest) => 0,
+/// A record in its limits: that of the ring, and of the calls that a stance is reached by.
+fn good(side: Side, stance: Stance) -> Terms {
+    let length = match (side, stance) {
+        (_, Stance::Rest) => 0,
         (Recorder, _) => 8,
-        (Sender, Stance::Rest) => 0,
         (Sender, _) => 5,
     };
-    let good = [
-        Field::Attached(true),
-        Field::Side(side),
-        Field::Power(Ring::SMALL.power),
-        Field::SlotSize(Ring::SMALL.slot_size),
-        Field::Length(good_length),
+    Terms {
+        side,
+        attached: true,
+        power: Ring::SMALL.power,
+        slot_size: Ring::SMALL.slot_size,
+        length,
+    }
+}
+
+/// Each field out of its limits.
+fn bad(good: Terms) -> Vec<Terms> {
+    let mut bad = vec![
+        Terms {
+            attached: false,
+            ..good
+        },
+        Terms {
+            side: good.side.other(),
+            ..good
+        },
     ];
-    let bad: [&[Field]; 5] = [
-        &[Field::Attached(false)],
-        &[Field::Side(side.other())],
-        &[Field::Power(0), Field::Power(11), Field::Power(255)],
-        &[
-            Field::SlotSize(0),
-            Field::SlotSize(12),
-            Field::SlotSize(4104),
-            Field::SlotSize(u32::MAX),
-        ],
-        &[Field::Length(9), Field::Length(u32::MAX)],
-    ];
+    bad.extend([0, 11, 255].map(|power| Terms { power, ..good }));
+    bad.extend([0, 12, 4104, u32::MAX].map(|slot_size| Terms { slot_size, ..good }));
+    // A pop may name any length, and then what is asked is done.
+    if good.side == Sender {
+        bad.extend([9, u32::MAX].map(|length| Terms { length, ..good }));
+    }
+    bad
+}
+
+/// Each field out of its limits, and then as it was.
+fn spoiled(side: Side, stance: Stance) -> Case {
     let name = format!(
         "Answer 20: a record out of its limits, {} {}",
         side.name(),
         stance.name()
     );
+    let good = good(side, stance);
     let mut case = stance.reach(Case::on(name, Ring::SMALL), side);
-    for (bad, good) in bad.into_iter().zip(good) {
-        // A pop may name any length, and then what is asked is done.
-        if side == Recorder && matches!(good, Field::Length(_)) {
-            continue;
-        }
-        for &field in bad {
-            case = case.ask(Ask::Spoil(side, field)).asks(entries(side));
-        }
-        case = case.ask(Ask::Spoil(side, good));
+    for bad in bad(good) {
+        case = case.ask(Ask::Spoil(side, bad)).asks(entries(side));
     }
-    case.turns(side, 1)
+    case.ask(Ask::Spoil(side, good)).turns(side, 1)
 }
 
 /// A region of another length is 20 at every turn, at rest and asleep too; nothing else looks
@@ -146,11 +151,11 @@ fn other_lengths(side: Side, stance: Stance) -> Case {
     let mut case = stance.reach(Case::on(name, Ring::SMALL), side);
     for length in [0, 383, 384, total - 1, total + 1, 65_536] {
         case = case
-            .ask(Ask::Lend(Part::Region, length))
+            .lend(Part::Region, length)
             .ask(Ask::Turn(side))
             .ask(Ask::Failing(side, 5));
     }
-    case.ask(Ask::Lend(Part::Region, total))
+    case.lend(Part::Region, total)
         .turns(side, 1)
         .ask(Ask::Spurious(side))
 }
@@ -202,16 +207,16 @@ fn copies(side: Side) -> Case {
     case = case.blocking_call(side);
     let wrong = [0, named - 1, named + 1, 4096];
     // At the look it does not matter.
-    case = case.ask(Ask::Lend(part, 0)).turns(side, 1);
+    case = case.lend(part, 0).turns(side, 1);
     for length in wrong {
         case = case
-            .ask(Ask::Lend(part, length))
+            .lend(part, length)
             .ask(Ask::Turn(side))
             .ask(Ask::Failing(side, 5));
     }
-    case.ask(Ask::Lend(part, named))
+    case.lend(part, named)
         .turns(side, 1)
-        .ask(Ask::Lend(part, 0))
+        .lend(part, 0)
         .turns(side, 4)
 }
 
@@ -233,7 +238,13 @@ fn any_length() -> Case {
     .turns(Sender, 3)
     .ask(push(true, 9))
     .ask(push(false, 9))
-    .ask(Ask::Spoil(Sender, Field::Length(9)))
+    .ask(Ask::Spoil(
+        Sender,
+        Terms {
+            length: 9,
+            ..good(Sender, Stance::Rest)
+        },
+    ))
     .ask(push(true, 9))
     .ask(Ask::Shutdown(Sender))
 }

@@ -46,8 +46,7 @@ fn sizes() -> Case {
         slot_size: 8,
         ..Ring::SMALL
     };
-    let mut case =
-        Case::new("Create's order 6, 5, 4: sizes").ask(Ask::Lend(Part::Region, ring.total()));
+    let mut case = Case::new("Create's order 6, 5, 4: sizes").lend(Part::Region, ring.total());
     for power in POWERS {
         for slot_size in SLOTS {
             case = case.ask(
@@ -68,7 +67,7 @@ fn lengths() -> Case {
     let total = ring.total();
     let mut case = Case::new("Create's 4: region lengths");
     for length in [0, 1, 383, 384, 385, total - 1, total + 1, 65_536, total] {
-        case = case.ask(Ask::Lend(Part::Region, length)).ask(ring.create());
+        case = case.lend(Part::Region, length).ask(ring.create());
     }
     case
 }
@@ -76,7 +75,7 @@ fn lengths() -> Case {
 fn starts() -> Case {
     let mut case =
         Case::new("Create writes all 384 header bytes and no ring byte: starts, options")
-            .ask(Ask::Lend(Part::Region, Ring::SMALL.total()));
+            .lend(Part::Region, Ring::SMALL.total());
     for start in [0, 1, u64::from(u32::MAX), 1 << 63, u64::MAX] {
         for not_full in [false, true] {
             let ring = Ring {
@@ -93,12 +92,10 @@ fn starts() -> Case {
 fn attach_lengths(ring: Ring) -> Case {
     let total = ring.total();
     let mut case = Case::new(format!("Attach's 4: region lengths, total {total}"))
-        .ask(Ask::Lend(Part::Region, total))
+        .lend(Part::Region, total)
         .ask(ring.create());
     for length in [0, 1, 383, 384, 385, total - 1, total + 1, 65_536, total] {
-        case = case
-            .ask(Ask::Lend(Part::Region, length))
-            .asks(SIDES.map(Ask::Attach));
+        case = case.lend(Part::Region, length).asks(SIDES.map(Ask::Attach));
     }
     case
 }
@@ -118,9 +115,9 @@ fn attached_twice() -> Case {
 
 /// A damage for each check of attach, in the order of the checks.
 fn damages() -> [Ask; 12] {
-    let put = |at: usize, width, value| Ask::Put {
+    let put = |at: usize, count, value| Ask::Put {
         at: at as u32,
-        width,
+        count,
         value,
     };
     [
@@ -143,7 +140,7 @@ fn damages() -> [Ask; 12] {
 fn order() -> Case {
     let damages = damages();
     let mut case = Case::new("Attach's order: each two damages together")
-        .ask(Ask::Lend(Part::Region, Ring::SMALL.total()));
+        .lend(Part::Region, Ring::SMALL.total());
     for (k, &second) in damages.iter().enumerate() {
         for &first in &damages[..k] {
             case = case
@@ -157,7 +154,7 @@ fn order() -> Case {
 /// Words set whole, to values that a sum or a product would wrap at.
 fn whole_words() -> Case {
     const TOTAL: u64 = 416;
-    let words: [(usize, u8, &[u64]); 7] = [
+    let words: [(usize, u16, &[u64]); 7] = [
         (
             Header::AT_TOTAL_SIZE,
             8,
@@ -182,12 +179,12 @@ fn whole_words() -> Case {
         (Header::AT_HEAD, 8, &[1, u64::MAX]),
         (Header::AT_TAIL, 8, &[1, u64::MAX]),
     ];
-    let mut case = Case::new("Attach: words set whole").ask(Ask::Lend(Part::Region, TOTAL as u32));
-    for (at, width, values) in words {
+    let mut case = Case::new("Attach: words set whole").lend(Part::Region, TOTAL as u32);
+    for (at, count, values) in words {
         for &value in values {
             case = case
                 .ask(Ring::SMALL.create())
-                .put(at, width, value)
+                .put(at, count, value)
                 .asks(SIDES.map(Ask::Attach));
         }
     }
@@ -204,7 +201,7 @@ fn whole_words() -> Case {
 /// Each of the low seven bits and the first reserved one, from either side.
 fn flags() -> Case {
     let mut case = Case::new("Attach: flag bits, 4 before 14 before 16")
-        .ask(Ask::Lend(Part::Region, Ring::SMALL.total()));
+        .lend(Part::Region, Ring::SMALL.total());
     for flags in [
         0x00,
         0x06,
@@ -235,9 +232,12 @@ fn every_byte(side: Side, ring: Ring) -> Case {
         ring.power,
         ring.slot_size
     );
+    let sweep = |at| Ask::Sweep {
+        side,
+        at,
+        flags: ring.flags() as u8,
+    };
     Case::new(name)
-        .ask(Ask::Lend(Part::Region, ring.total()))
-        .ask(ring.create())
-        .ask(Ask::Keep)
-        .asks((0..Header::SIZE as u32).map(|at| Ask::Sweep { side, at }))
+        .lend(Part::Region, ring.total())
+        .asks((0..Header::SIZE as u32).flat_map(|at| [ring.create(), sweep(at)]))
 }

@@ -14,7 +14,7 @@ mod turns;
 mod walks;
 
 use case::Case;
-use record::Ask;
+use record::{Ask, Record};
 use stage::{Came, Stage, REPORT};
 
 use crate::party::Side;
@@ -36,8 +36,8 @@ pub fn list() -> Vec<Case> {
 
 /// The case records, one after another.
 pub fn script(cases: &[Case]) -> Vec<u8> {
-    let asks = cases.iter().flat_map(|case| &case.asks);
-    asks.flat_map(|ask| ask.to_bytes()).collect()
+    let records = cases.iter().flat_map(|case| &case.records);
+    records.flat_map(|record| record.to_bytes()).collect()
 }
 
 /// A record that was played.
@@ -45,7 +45,7 @@ struct Played<'a> {
     case: &'a Case,
     /// Counted from 1 within the case.
     number: usize,
-    ask: Ask,
+    record: Record,
     came: Came,
     report: [u8; REPORT],
 }
@@ -54,14 +54,14 @@ struct Played<'a> {
 fn play<'a>(cases: &'a [Case], mut each: impl FnMut(Played<'a>, &Stage)) {
     let mut stage = Stage::new();
     for case in cases {
-        for (k, &ask) in case.asks.iter().enumerate() {
-            let came = stage.play(ask);
+        for (k, &record) in case.records.iter().enumerate() {
+            let came = stage.play(record);
             let played = Played {
                 case,
                 number: k + 1,
-                ask,
+                record,
                 came,
-                report: stage.report(ask, &came),
+                report: stage.report(record, came),
             };
             each(played, &stage);
         }
@@ -75,8 +75,8 @@ pub fn report(cases: &[Case]) -> Vec<u8> {
     bytes
 }
 
-/// A line for each case and each of its records: what is asked, the answer, and where the
-/// sender and the recorder then stand.
+/// A line for each case and each of its records: what is asked and what is lent to it, the
+/// answer, and where the sender and the recorder then stand.
 pub fn read(cases: &[Case]) -> String {
     let mut lines = String::new();
     play(cases, |played, stage| {
@@ -91,15 +91,15 @@ pub fn read(cases: &[Case]) -> String {
 fn line(played: &Played, stage: &Stage) -> String {
     let [sender, recorder] =
         [Side::Sender, Side::Recorder].map(|side| words::step(stage.bench.party(side)));
-    let ask = played.ask.words();
+    let record = played.record.words();
     let came = came_words(played, stage);
     let number = played.number;
-    format!("{number:>5}  {ask:<52} {came:<34} {sender:<26} {recorder}\n")
+    format!("{number:>5}  {record:<64} {came:<34} {sender:<26} {recorder}\n")
 }
 
 fn came_words(played: &Played, stage: &Stage) -> String {
-    match played.ask {
-        Ask::Sweep { .. } => format!("{} of 256 accepted", played.came.tries.accepted),
+    match played.record.ask {
+        Ask::Sweep { .. } => format!("{} of 256 accepted", played.came.accepted),
         _ => {
             let answer = played.came.answer;
             words::answer(answer, stage.note(answer))
@@ -119,7 +119,7 @@ pub fn difference(cases: &[Case], found: &[u8]) -> Option<String> {
                 "case `{}`, record {} differs: {}, expected {}, found {}",
                 played.case.name,
                 played.number,
-                played.ask.words(),
+                played.record.words(),
                 words::hex(&played.report),
                 words::hex(here)
             ));

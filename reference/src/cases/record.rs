@@ -1,10 +1,11 @@
-//! A case record: what it asks, as 16 bytes and in words.
+//! A case record: what it asks and what is lent to it, as 24 bytes and in words.
 
 use crate::party::Side;
 use crate::words;
 
-/// The length of a case record: kind, part, tag u16, number u32, value u64.
-pub const RECORD: usize = 16;
+/// The length of a case record: kind, part, tag u16, number u32, value u64, then how much of
+/// the region is lent, and how much of the payload or the buffer, each u32.
+pub const RECORD: usize = 24;
 
 /// One of the three runs of bytes that are lent.
 #[derive(Clone, Copy, Debug, PartialEq, Eq)]
@@ -14,24 +15,14 @@ pub enum Part {
     Buffer,
 }
 
-impl Part {
-    fn name(self) -> &'static str {
-        match self {
-            Part::Region => "region",
-            Part::Payload => "payload",
-            Part::Buffer => "buffer",
-        }
-    }
-}
-
-/// A field of a party's record, with the value that is set there whatever the limits say.
+/// What a party's record is set to, whatever the limits say.
 #[derive(Clone, Copy, Debug, PartialEq, Eq)]
-pub enum Field {
-    Attached(bool),
-    Side(Side),
-    Power(u8),
-    SlotSize(u32),
-    Length(u32),
+pub struct Terms {
+    pub side: Side,
+    pub attached: bool,
+    pub power: u8,
+    pub slot_size: u32,
+    pub length: u32,
 }
 
 /// What one record asks.
@@ -59,41 +50,79 @@ pub enum Ask {
         not_full: bool,
         start: u64,
     },
-    /// An attach for each value of one byte of the kept region.
+    /// An attach for each value of one byte, the low byte of the flags set before each.
     Sweep {
         side: Side,
         at: u32,
+        flags: u8,
     },
-    /// Nobody is attached, nothing is lent, and region, payload and buffer hold their patterns.
-    Renew,
-    /// From now on so many bytes are lent.
-    Lend(Part, u32),
-    /// The lowest bytes of a value, stored in the region whatever the rules say.
+    /// Bytes stored in the region whatever the rules say: those of a value, lowest first, and
+    /// over again, each time one more.
     Put {
         at: u32,
-        width: u8,
+        count: u16,
         value: u64,
     },
-    /// The region's bytes are kept for sweeps.
-    Keep,
-    Spoil(Side, Field),
+    Spoil(Side, Terms),
     /// A kind that asks nothing.
     Unknown(u8),
 }
 
-/// The fields of a record in their order.
-type Fields = (u8, u8, u16, u32, u64);
+/// What is asked, and how many bytes are lent to it: of the region; and of the payload where
+/// the sender acts, of the buffer where the recorder does.
+#[derive(Clone, Copy, Debug, PartialEq, Eq)]
+pub struct Record {
+    pub ask: Ask,
+    pub region: u32,
+    pub lent: u32,
+}
 
-impl Ask {
+impl Record {
     pub fn to_bytes(self) -> [u8; RECORD] {
-        let (kind, part, tag, number, value) = self.fields();
+        let (kind, part, tag, number, value) = self.ask.fields();
         let mut bytes = [0; RECORD];
         bytes[0] = kind;
         bytes[1] = part;
         bytes[2..4].copy_from_slice(&tag.to_le_bytes());
         bytes[4..8].copy_from_slice(&number.to_le_bytes());
-        bytes[8..].copy_from_slice(&value.to_le_bytes());
+        bytes[8..16].copy_from_slice(&value.to_le_bytes());
+        bytes[16..20].copy_from_slice(&self.region.to_le_bytes());
+        bytes[20..].copy_from_slice(&self.lent.to_le_bytes());
         bytes
+    }
+
+    pub fn words(self) -> String {
+        let words = self.ask.words();
+        let region = self.region;
+        match self.ask.actor() {
+            Some(Side::Sender) => format!("{words} ({region}, payload {})", self.lent),
+            Some(Side::Recorder) => format!("{words} ({region}, buffer {})", self.lent),
+            None => format!("{words} ({region})"),
+        }
+    }
+}
+
+/// The fields of an ask in their order.
+type Fields = (u8, u8, u16, u32, u64);
+
+impl Ask {
+    pub fn kind(self) -> u8 {
+        self.fields().0
+    }
+
+    /// The side that an event is of.
+    pub fn actor(self) -> Option<Side> {
+        match self {
+            Ask::Turn(side)
+            | Ask::Failing(side, _)
+            | Ask::Spurious(side)
+            | Ask::TimeOut(side)
+            | Ask::Close(side)
+            | Ask::Shutdown(side) => Some(side),
+            Ask::Push { .. } => Some(Side::Sender),
+            Ask::Pop { .. } => Some(Side::Recorder),
+            _ => None,
+        }
     }
 
     fn fields(self) -> Fields {
@@ -116,13 +145,10 @@ impl Ask {
                 slot_size,
                 not_full,
                 start,
-            } => (9, not_full.into(), power.into(), slot_size, start),
-            Ask::Sweep { side, at } => (10, side as u8, 0, at, 0),
-            Ask::Renew => (11, 0, 0, 0, 0),
-            Ask::Lend(part, length) => (12, part as u8, 0, length, 0),
-            Ask::Put { at, width, value } => (13, width, 0, at, value),
-            Ask::Keep => (14, 0, 0, 0, 0),
-            Ask::Spoil(side, field) => spoil_fields(side, field),
+            } => (10, not_full.into(), power.into(), slot_size, start),
+            Ask::Sweep { side, at, flags } => (11, side as u8, 0, at, flags.into()),
+            Ask::Put { at, count, value } => (12, 0, count, at, value),
+            Ask::Spoil(side, terms) => spoil_fields(side, terms),
             Ask::Unknown(kind) => (kind, 0, 0, 0, 0),
         }
     }
@@ -152,32 +178,28 @@ impl Ask {
                 let option = if not_full { "on" } else { "off" };
                 format!("create power {power} slot {slot_size} not-full {option} start {start:#X}")
             }
-            Ask::Sweep { side, at } => {
+            Ask::Sweep { side, at, .. } => {
                 format!("attach {} over each value of byte {at:#05X}", side.name())
             }
-            Ask::Renew => "renew".into(),
-            Ask::Lend(part, length) => format!("lend {} {length}", part.name()),
-            Ask::Put { at, width, value } => {
-                let width = usize::from(width).min(8);
-                let bytes = words::hex(&value.to_le_bytes()[..width]);
-                format!("put at {at:#05X} bytes {bytes}")
-            }
-            Ask::Keep => "keep the region".into(),
-            Ask::Spoil(side, field) => format!("record of {}: {}", side.name(), set(field)),
+            Ask::Put { at, count, value } => put_words(at, count, value),
+            Ask::Spoil(side, terms) => format!("record of {}: {}", side.name(), set(terms)),
             Ask::Unknown(kind) => format!("unknown kind {kind}"),
         }
     }
 }
 
-fn spoil_fields(side: Side, field: Field) -> Fields {
-    let (tag, value) = match field {
-        Field::Attached(on) => (0, on.into()),
-        Field::Side(whose) => (1, whose as u64),
-        Field::Power(power) => (2, power.into()),
-        Field::SlotSize(size) => (3, size.into()),
-        Field::Length(length) => (4, length.into()),
-    };
-    (15, side as u8, tag, 0, value)
+fn spoil_fields(seat: Side, terms: Terms) -> Fields {
+    let part = seat as u8 + 2 * terms.side as u8 + 4 * u8::from(terms.attached);
+    let power = terms.power.into();
+    (9, part, power, terms.slot_size, terms.length.into())
+}
+
+fn put_words(at: u32, count: u16, value: u64) -> String {
+    let bytes = value.to_le_bytes();
+    match bytes.get(..count.into()) {
+        Some(bytes) => format!("put at {at:#05X} bytes {}", words::hex(bytes)),
+        None => format!("put at {at:#05X} {count} bytes from {}", words::hex(&bytes)),
+    }
 }
 
 fn mode(blocking: bool) -> &'static str {
@@ -188,12 +210,14 @@ fn mode(blocking: bool) -> &'static str {
     }
 }
 
-fn set(field: Field) -> String {
-    match field {
-        Field::Attached(on) => format!("attached is {on}"),
-        Field::Side(side) => format!("side is {}", side.name()),
-        Field::Power(power) => format!("power is {power}"),
-        Field::SlotSize(size) => format!("slot size is {size}"),
-        Field::Length(length) => format!("length is {length}"),
-    }
+fn set(terms: Terms) -> String {
+    let Terms {
+        side,
+        attached,
+        power,
+        slot_size,
+        length,
+    } = terms;
+    let side = side.name();
+    format!("side {side}, attached {attached}, power {power}, slot {slot_size}, length {length}")
 }

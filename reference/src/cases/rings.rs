@@ -56,7 +56,7 @@ fn sizes() -> Vec<Case> {
             let used = (1u64 << power) - 1;
             let name = format!("Sizes: power {power}, slot {slot_size}");
             Case::new(name)
-                .ask(Ask::Lend(Part::Region, ring.total()))
+                .lend(Part::Region, ring.total())
                 .ask(ring.create())
                 .put(Header::AT_HEAD, 8, used)
                 .ask(Ask::Attach(Sender))

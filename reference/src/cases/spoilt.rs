@@ -20,9 +20,7 @@ pub fn headers() -> Case {
             not_full: dice.percent(50),
             start: dice.roll(),
         };
-        case = case
-            .ask(Ask::Lend(Part::Region, ring.total()))
-            .ask(ring.create());
+        case = case.lend(Part::Region, ring.total()).ask(ring.create());
         for _ in 0..1 + dice.below(3) {
             case = case.ask(random_damage(&mut dice));
         }
@@ -36,7 +34,7 @@ pub fn headers() -> Case {
 }
 
 fn random_damage(dice: &mut Dice) -> Ask {
-    const FIELDS: [(usize, u8); 8] = [
+    const FIELDS: [(usize, u16); 8] = [
         (Header::AT_TOTAL_SIZE, 8),
         (Header::AT_RING_BYTES, 8),
         (Header::AT_POWER, 1),
@@ -49,11 +47,11 @@ fn random_damage(dice: &mut Dice) -> Ask {
     if dice.percent(30) {
         return Ask::Put {
             at: dice.below(Header::SIZE as u64) as u32,
-            width: 1,
+            count: 1,
             value: dice.below(256),
         };
     }
-    let (at, width) = FIELDS[dice.below(FIELDS.len() as u64) as usize];
+    let (at, count) = FIELDS[dice.below(FIELDS.len() as u64) as usize];
     // Small multiples of 8 are mostly good sizes.
     let value = match at {
         Header::AT_TOTAL_SIZE => 384 + 8 * dice.below(24),
@@ -64,7 +62,7 @@ fn random_damage(dice: &mut Dice) -> Ask {
     };
     Ask::Put {
         at: at as u32,
-        width,
+        count,
         value,
     }
 }

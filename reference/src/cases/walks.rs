@@ -1,7 +1,7 @@
 //! Random walks over rings that the script program does not have, with damage on the way.
 
 use crate::cases::case::{Case, Ring};
-use crate::cases::record::{Ask, Part};
+use crate::cases::record::Ask;
 use crate::cases::stage::Stage;
 use crate::dice::Dice;
 use crate::header::Header;
@@ -36,55 +36,44 @@ fn walk(number: u64) -> Case {
         ring,
     );
     let mut stage = Stage::new();
-    for &ask in &case.asks {
-        stage.play(ask);
-    }
+    let mut played = 0;
     for _ in 0..EVENTS {
-        for ask in event(&mut dice, &stage, ring, damaged) {
-            stage.play(ask);
-            case = case.ask(ask);
+        for &record in &case.records[played..] {
+            stage.play(record);
         }
+        played = case.records.len();
+        case = event(case, &mut dice, &stage, ring, damaged);
     }
     case
 }
 
-fn event(dice: &mut Dice, stage: &Stage, ring: Ring, damaged: bool) -> Vec<Ask> {
+fn event(case: Case, dice: &mut Dice, stage: &Stage, ring: Ring, damaged: bool) -> Case {
     if damaged && dice.percent(8) {
-        return vec![damage(dice, ring)];
+        return case.ask(damage(dice, ring));
     }
     let side = if dice.percent(50) { Sender } else { Recorder };
     match stage.bench.party(side).step {
-        Step::Rest if dice.percent(90) => begin(dice, side, ring),
-        Step::Asleep if dice.percent(20) => vec![Ask::Spurious(side)],
-        Step::Asleep if dice.percent(20) => vec![Ask::TimeOut(side)],
-        _ if dice.percent(10) => vec![Ask::Failing(side, failure(dice))],
-        _ => vec![Ask::Turn(side)],
+        Step::Rest if dice.percent(90) => begin(case, dice, side, ring),
+        Step::Asleep if dice.percent(20) => case.ask(Ask::Spurious(side)),
+        Step::Asleep if dice.percent(20) => case.ask(Ask::TimeOut(side)),
+        _ if dice.percent(10) => case.ask(Ask::Failing(side, failure(dice))),
+        _ => case.ask(Ask::Turn(side)),
     }
 }
 
-fn begin(dice: &mut Dice, side: Side, ring: Ring) -> Vec<Ask> {
+fn begin(case: Case, dice: &mut Dice, side: Side, ring: Ring) -> Case {
     if dice.percent(2) {
-        return vec![Ask::Close(side)];
+        return case.ask(Ask::Close(side));
     }
     if dice.percent(1) {
-        return vec![Ask::Shutdown(side)];
+        return case.ask(Ask::Shutdown(side));
     }
     let blocking = dice.percent(50);
     // One above the payload capacity now and then: too long for a push, and well for a pop.
     let length = dice.below(u64::from(ring.slot_size) - 6) as u32;
     match side {
-        Sender => vec![
-            Ask::Lend(Part::Payload, length),
-            Ask::Push {
-                blocking,
-                tag: dice.roll() as u16,
-                length,
-            },
-        ],
-        Recorder => vec![
-            Ask::Lend(Part::Buffer, length),
-            Ask::Pop { blocking, length },
-        ],
+        Sender => case.push(blocking, dice.roll() as u16, length),
+        Recorder => case.pop(blocking, length),
     }
 }
 
@@ -96,7 +85,7 @@ fn failure(dice: &mut Dice) -> u16 {
 /// A counter a little off, a slot's length, a bell, or any byte of the header.
 fn damage(dice: &mut Dice, ring: Ring) -> Ask {
     let near = ring.start.wrapping_add(dice.below(6)).wrapping_sub(1);
-    let (at, width, value) = match dice.below(5) {
+    let (at, count, value) = match dice.below(5) {
         0 => (Header::AT_HEAD, 8, near),
         1 => (Header::AT_TAIL, 8, near),
         2 => (Header::SIZE, 2, dice.below(u64::from(ring.slot_size))),
@@ -105,7 +94,7 @@ fn damage(dice: &mut Dice, ring: Ring) -> Ask {
     };
     Ask::Put {
         at: at as u32,
-        width,
+        count,
         value,
     }
 }

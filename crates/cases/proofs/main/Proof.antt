@@ -1,13 +1,15 @@
+use mathlib.Core.Path.{_≡_}
 use Prim.Native.Nat.{_≤_, _-_, _^_}
 use borrow.Author.Needs.{needs}
+use lib.ListN.{length}
 use Rattle.cases.proofs.main.Statement.{statement}
 use Rattle.cases.proofs.main.Tie as tie
 
 abbrev Inv-loop : tie.InvT-loop
-Inv-loop region₀ kept₀ payload₀ buffer₀ s₀ reads₀ region kept payload buffer s reads = reads ≤ 2 ^ 62
+Inv-loop region₀ payload s₀ reads₀ region s reads = (reads ≤ 2 ^ 62) × (65536 ≡ length region)
 
 abbrev μ-loop : tie.MeasureT-loop
-μ-loop region₀ kept₀ payload₀ buffer₀ s₀ reads₀ region kept payload buffer s reads = 2 ^ 62 - reads
+μ-loop region₀ payload s₀ reads₀ region s reads = 2 ^ 62 - reads
 
 pub main-spec : {M : Type 1} → statement M
 main-spec =
@@ -18,9 +20,18 @@ main-spec =
     (λ c κs. search needs)
     (λ c κs. search needs)
     (λ c κs. search needs)
+    (λ c. search needs)
+    (λ c κs. search needs)
+    (λ c. search needs)
     (λ c κs. search needs)
     (λ c κs. search needs)
     (λ c. search needs)
+    (λ c. search needs)
+    (λ c. search needs)
+    (λ c κs. search needs)
+    (λ c. search needs)
+    (λ c. search needs)
+    (λ c κs. search needs)
     (λ c κs. search needs)
     (λ c. search needs)
     (λ c. search needs)

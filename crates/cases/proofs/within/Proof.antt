@@ -2,8 +2,8 @@ use borrow.Author.Needs.{needs}
 use mathlib.Core.Path.{sym}
 use native.Mathlib.Omega.{arith}
 use lib.Seq.{length-take-le}
-use Rattle.cases.proofs.stage.within.Statement.{statement}
-use Rattle.cases.proofs.stage.within.Tie as tie
+use Rattle.cases.proofs.within.Statement.{statement}
+use Rattle.cases.proofs.within.Tie as tie
 
 returns : tie.Need-returns
 returns c =

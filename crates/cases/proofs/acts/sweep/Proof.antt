@@ -2,17 +2,17 @@ use mathlib.Core.Path.{_≡_}
 use Prim.Native.Nat.{_≤_, _-_}
 use borrow.Author.Needs.{needs}
 use lib.ListN.{length}
-use Rattle.cases.proofs.stage.try_values.Statement.{statement}
-use Rattle.cases.proofs.stage.try_values.Tie as tie
+use Rattle.cases.proofs.acts.sweep.Statement.{statement}
+use Rattle.cases.proofs.acts.sweep.Tie as tie
 
 abbrev Inv-loop : tie.InvT-loop
-Inv-loop region₀ kept side at tries₀ x₀ region tries x = (x ≤ 256) × (length region ≡ length region₀)
+Inv-loop region₀ c sum₀ x₀ region sum x = (x ≤ 256) × (length region ≡ length region₀)
 
 abbrev μ-loop : tie.MeasureT-loop
-μ-loop region₀ kept side at tries₀ x₀ region tries x = 256 - x
+μ-loop region₀ c sum₀ x₀ region sum x = 256 - x
 
-pub try-values-spec : {M : Type 1} → statement M
-try-values-spec =
+pub sweep-spec : {M : Type 1} → statement M
+sweep-spec =
     tie.close
     (tie.spec
     Inv-loop
@@ -23,6 +23,7 @@ try-values-spec =
     (λ c. search needs)
     (λ c. search needs)
     (λ c. search needs)
-    (λ c κs. search needs)
+    (λ c. search needs)
+    (λ c. search needs)
     (λ c. search needs)
     (λ c. search needs))
