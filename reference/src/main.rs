@@ -57,7 +57,7 @@ usage:
   reference cases script > SCRIPT
       writes the cases that the program `cases` plays, as records of 24 bytes
   reference cases report > REPORT
-      plays them, and writes the report of 28 bytes that must come of each
+      plays them, and writes the report of 32 bytes that must come of each
   reference cases read
       writes the cases with their answers as lines, each case under its name
   reference cases compare REPORT
