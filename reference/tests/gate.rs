@@ -87,8 +87,10 @@ fn failed(name: &str, status: i32, tools: &Tools) -> Vec<String> {
 
 #[test]
 fn all_passes() {
-    let (status, lines) = gate("good", &GOOD);
+    let (status, mut lines) = gate("good", &GOOD);
     assert_eq!(status, Some(0));
+    let time = lines.remove(3);
+    assert!(time.starts_with("gate: 0 min "), "{time}");
     let expected = [
         "one proved",
         "two proved",
@@ -119,6 +121,21 @@ fn a_proof_that_fails_fails_the_gate() {
     assert_eq!(lines, ["one proved", "gate: FAILED"]);
     let prove = "exit 2";
     failed("silent", 2, &Tools { prove, ..GOOD });
+}
+
+/// The tests run beside the proofs: what they say is shown once the proofs have been, and nothing is
+/// compared any more.
+#[test]
+fn a_test_that_fails_says_why() {
+    let tests = "echo 'the test that failed'; exit 101";
+    let lines = failed("told", 101, &Tools { tests, ..GOOD });
+    let expected = [
+        "one proved",
+        "two proved",
+        "the test that failed",
+        "gate: FAILED",
+    ];
+    assert_eq!(lines, expected);
 }
 
 #[test]

@@ -85,7 +85,7 @@ pub fn begin_push(p: Party, blocking: bool, tag: u16, length: u32) -> Reply
 {
     let own = p.own;
     let goes = sound::ready(Side::Sender, p);
-    let off = sound::both(blocking, !own.notfull);
+    let off = types::both(blocking, !own.notfull);
     let fits = sound::length_ok(Side::Sender, length, own.slot);
     let begun = named(p, blocking, tag, length);
     begins(p, goes, p.closed, off, !fits, begun)

@@ -13,12 +13,6 @@ use sizes::Limits;
 use types::Answer;
 use types::Side;
 
-fn both(a: bool, b: bool) -> bool
-    ensures { λ r. ⌜ r ≡ (a && b) ⌝ }
-{
-    if a { b } else { false }
-}
-
 fn magic_ok(region: &[u8]) -> bool
     requires { ⌜ headerBytes ≤ length (now region) ⌝ }
     ensures { λ r. ⌜ r ≡ magicOk (now (region .entry)) ⌝ }
@@ -30,7 +24,7 @@ fn version_ok(region: &[u8]) -> bool
     requires { ⌜ headerBytes ≤ length (now region) ⌝ }
     ensures { λ r. ⌜ r ≡ versionOk (now (region .entry)) ⌝ }
 {
-    both(Header::major(region) == 0, Header::minor(region) == 1)
+    types::both(Header::major(region) == 0, Header::minor(region) == 1)
 }
 
 // The total is the header and the ring. The header is taken off the total, since the sum might wrap.
@@ -49,10 +43,10 @@ fn sizes_ok(region: &[u8]) -> bool
 {
     let total = Header::total_size(region);
     let whole = adds_up(total, Header::ring_bytes(region));
-    let arena = both(Header::arena_bytes(region) == 0, whole);
-    let offset = both(Header::arena_offset(region) == 0, arena);
-    let ring = both(Header::ring_offset(region) == Limits::HEADER_BYTES, offset);
-    both(total == region.len() as u64, ring)
+    let arena = types::both(Header::arena_bytes(region) == 0, whole);
+    let offset = types::both(Header::arena_offset(region) == 0, arena);
+    let ring = types::both(Header::ring_offset(region) == Limits::HEADER_BYTES, offset);
+    types::both(total == region.len() as u64, ring)
 }
 
 // The header's bytes that are in no field.
@@ -60,16 +54,16 @@ fn reserved_ok(region: &[u8]) -> bool
     requires { ⌜ headerBytes ≤ length (now region) ⌝ }
     ensures { λ r. ⌜ r ≡ allZero (now (region .entry)) reserved ⌝ }
 {
-    let bells = both(
+    let bells = types::both(
         runs::all_zero(region, 60, 0x104),
         runs::all_zero(region, 60, 0x144),
     );
-    let tail = both(runs::all_zero(region, 56, 0x0C8), bells);
-    let head = both(runs::all_zero(region, 56, 0x088), tail);
-    let error = both(runs::all_zero(region, 36, 0x05C), head);
-    let flags = both(runs::all_zero(region, 4, 0x04C), error);
-    let slot = both(runs::all_zero(region, 4, 0x044), flags);
-    both(runs::all_zero(region, 7, 0x039), slot)
+    let tail = types::both(runs::all_zero(region, 56, 0x0C8), bells);
+    let head = types::both(runs::all_zero(region, 56, 0x088), tail);
+    let error = types::both(runs::all_zero(region, 36, 0x05C), head);
+    let flags = types::both(runs::all_zero(region, 4, 0x04C), error);
+    let slot = types::both(runs::all_zero(region, 4, 0x044), flags);
+    types::both(runs::all_zero(region, 7, 0x039), slot)
 }
 
 fn check_flags(flags: u32, side: Side) -> Answer

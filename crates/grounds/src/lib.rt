@@ -61,7 +61,7 @@ fn lent_as_named(side: Side, p: Party, payload: usize, buffer: usize) -> bool
     ensures { λ r. ⌜ r ≡ lentOk (stanceOf (p .step)) (lentTo side payload buffer) (p .length) ⌝ }
 {
     let step = p.step;
-    let stance = take::stance_of(step);
+    let stance = sound::stance_of(step);
     let lent = lent_to(side, payload, buffer);
     lent_ok(stance, lent, p.length as usize)
 }
@@ -83,9 +83,9 @@ pub fn goes(
     let whole = region as u64 == total;
     let copy = lent_as_named(side, p, payload, buffer);
     let fine = fault_ok(fault);
-    let turn = sound::both(copy, fine);
-    let lent = sound::both(whole, turn);
-    sound::both(good, lent)
+    let turn = types::both(copy, fine);
+    let lent = types::both(whole, turn);
+    types::both(good, lent)
 }
 
 fn woke_with(failed: bool, bell: Bell) -> Woke
@@ -148,7 +148,7 @@ pub fn wakened(side: Side, p: Party, w: Woke) -> Party
 {
     let heard = hears(side, w);
     let asleep = sound::sleeps(p);
-    let up = sound::both(heard, asleep);
+    let up = types::both(heard, asleep);
     if up {
         return calls::at(p, Step::Look);
     }

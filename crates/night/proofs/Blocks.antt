@@ -11,7 +11,8 @@ use Rattle.words.specs.Bytes.{part}
 use Rattle.types.specs.Answers.{toldOf}
 use Rattle.records.specs.Records.{recordBytes, kindIn, askedIn}
 use Rattle.reports.proofs.Filled.{length-report}
-use Rattle.script.specs.Night.{Night, playedBy, bufferBy, after, reported, nights, reports}
+use Rattle.opening.specs.Night.{Night}
+use Rattle.script.specs.Script.{playedBy, bufferBy, after, reported, nights, reports}
 
 -- a record less to drop
 drop-record : (n : ℕ) (s : List ℕ) → drop (recordBytes * n) (drop recordBytes s) ≡ drop (recordBytes * suc n) s

@@ -8,7 +8,8 @@ use lib.ListN.{length, drop, length-drop, length-append}
 use lib.Seq.{drop-append-le}
 use Rattle.types.specs.Pick.{pick}
 use Rattle.records.specs.Records.{recordBytes, cutReport}
-use Rattle.script.specs.Night.{Night, start, nights, reports, report}
+use Rattle.opening.specs.Night.{Night, start}
+use Rattle.script.specs.Script.{nights, reports, report}
 use Rattle.night.specs.Pieces.{wholeIn, leftOf, inPieces, joined}
 use Rattle.night.proofs.Blocks.{nights-front, reports-add, reports-front}
 

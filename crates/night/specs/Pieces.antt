@@ -6,7 +6,8 @@ use lib.Dec.{eqb}
 use lib.ListN.{length, drop}
 use Rattle.types.specs.Pick.{pick}
 use Rattle.records.specs.Records.{recordBytes, cutReport}
-use Rattle.script.specs.Night.{Night, nights, reports}
+use Rattle.opening.specs.Night.{Night}
+use Rattle.script.specs.Script.{nights, reports}
 
 -- a piece is at most as long as this
 abbrev pub blockBytes : ℕ

@@ -1,6 +1,6 @@
 -- One answer: crate `night`.
 use mathlib.Core.Path.{sym, _∙_, ap}
-use Rattle.script.specs.Night.{Night}
+use Rattle.opening.specs.Night.{Night}
 use Rattle.one_answer.specs.OneAnswer.{OneAnswer}
 use Rattle.one_answer.proofs.Both.{both, both₃}
 use Rattle.night.proofs as code

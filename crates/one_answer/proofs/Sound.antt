@@ -3,8 +3,8 @@ use mathlib.Core.Path.{refl, sym, _∙_}
 use Rattle.one_answer.specs.OneAnswer.{OneAnswer}
 use Rattle.sound.proofs as code
 
-pub both : OneAnswer code.both.Kinds.ps code.both.Kinds.r code.both.Reads.Post
-both κs a z z′ ws ws′ p q = (p ∙ sym q, refl)
+pub stance-of : OneAnswer code.stance_of.Kinds.ps code.stance_of.Kinds.r code.stance_of.Reads.Post
+stance-of κs a z z′ ws ws′ p q = (p ∙ sym q, refl)
 
 pub length-ok : OneAnswer code.length_ok.Kinds.ps code.length_ok.Kinds.r code.length_ok.Reads.Post
 length-ok κs a z z′ ws ws′ p q = (p ∙ sym q, refl)

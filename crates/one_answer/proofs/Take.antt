@@ -6,9 +6,6 @@ use Rattle.take.proofs as code
 pub move-at : OneAnswer code.move_at.Kinds.ps code.move_at.Kinds.r code.move_at.Reads.Post
 move-at κs a z z′ ws ws′ p q = (p ∙ sym q, refl)
 
-pub stance-of : OneAnswer code.stance_of.Kinds.ps code.stance_of.Kinds.r code.stance_of.Reads.Post
-stance-of κs a z z′ ws ws′ p q = (p ∙ sym q, refl)
-
 pub step-after : OneAnswer code.step_after.Kinds.ps code.step_after.Kinds.r code.step_after.Reads.Post
 step-after κs a z z′ ws ws′ p q = (p ∙ sym q, refl)
 

@@ -13,7 +13,7 @@ use Rattle.layout.specs.Limits.{powerOk, slotOk, capacity, ringBytes, totalByte
 use Rattle.layout.specs.Create.{createAnswer, createLeaves}
 use Rattle.layout.specs.Attach.{attachReply, attachLeaves}
 use Rattle.records.specs.Records.{payloadBytes}
-use Rattle.script.specs.Night.{nightOf, power, slot, madeRegion, start}
+use Rattle.opening.specs.Night.{nightOf, power, slot, madeRegion, start}
 
 -- zeros all over
 pub wiped : (s : List ℕ) → sets s 0 (replicate (length s) 0) ≡ replicate (length s) 0

@@ -1,7 +1,7 @@
 // How a script begins: on a fresh region, with both parties attached.
 ghost use mathlib.Core.Path.{_≡_};
 ghost use lib.ListN.{length, replicate};
-ghost use Rattle.script.specs.Night.{nightOf, start};
+ghost use Rattle.opening.specs.Night.{nightOf, start};
 use types::Bench;
 use types::Side;
 

@@ -33,10 +33,7 @@ pub mod Bound
 pub mod Asks
 pub mod Ending
 pub mod Delivers
-pub mod Reaches
 pub mod Sized
-pub mod Lasts
-pub mod Stretches
 pub mod Sleeps
 pub mod Drowsy
 pub mod Dreaming

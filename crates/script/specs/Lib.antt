@@ -1,1 +1,1 @@
-pub mod Night
+pub mod Script

@@ -6,12 +6,34 @@ ghost use Rattle.rules.specs.Take.{stanceOf};
 use types::Party;
 use types::Side;
 use types::Stance;
+use types::Step;
 
-// A chain of tests is a line of calls of this: `&&` would branch at each.
-pub fn both(a: bool, b: bool) -> bool
-    ensures { λ r. ⌜ r ≡ (a && b) ⌝ }
+pub fn stance_of(step: Step) -> Stance
+    ensures { λ r. ⌜ r ≡ stanceOf step ⌝ }
 {
-    if a { b } else { false }
+    match step {
+        Step::Rest => Stance::Resting,
+        Step::Look => Stance::Moving,
+        Step::Copy => Stance::Copying,
+        Step::Publish(_, _) => Stance::Publishing,
+        Step::Check(_, _) => Stance::Moving,
+        Step::Raise(_, _) => Stance::Moving,
+        Step::Wake(_, _) => Stance::Moving,
+        Step::Gate => Stance::Moving,
+        Step::Epoch => Stance::Moving,
+        Step::Again(_) => Stance::Moving,
+        Step::GateAgain(_) => Stance::Moving,
+        Step::Wait(_) => Stance::Moving,
+        Step::Asleep => Stance::Sleeping,
+        Step::CloseSet => Stance::Closing,
+        Step::CloseRaise => Stance::Moving,
+        Step::CloseWake => Stance::Moving,
+        Step::ShutSet(_) => Stance::Moving,
+        Step::ShutRaiseNe(_) => Stance::Moving,
+        Step::ShutWakeNe(_) => Stance::Moving,
+        Step::ShutRaiseNf(_, _) => Stance::Moving,
+        Step::ShutWakeNf(_, _) => Stance::Moving,
+    }
 }
 
 fn is_resting(stance: Stance) -> bool
@@ -61,10 +83,10 @@ pub fn sound(side: Side, p: Party) -> bool
     let power = sizes::power_ok(own.power);
     let slot = sizes::slot_ok(own.slot);
     let length = length_ok(side, p.length, own.slot);
-    let fits = both(slot, length);
-    let limits = both(power, fits);
-    let mine = both(same, limits);
-    both(own.attached, mine)
+    let fits = types::both(slot, length);
+    let limits = types::both(power, fits);
+    let mine = types::both(same, limits);
+    types::both(own.attached, mine)
 }
 
 // 20's grounds at a begin: those, and that a call runs.
@@ -72,16 +94,16 @@ pub fn ready(side: Side, p: Party) -> bool
     ensures { λ r. ⌜ r ≡ ready side p ⌝ }
 {
     let step = p.step;
-    let stance = take::stance_of(step);
+    let stance = stance_of(step);
     let resting = is_resting(stance);
     let good = sound(side, p);
-    both(good, resting)
+    types::both(good, resting)
 }
 
 pub fn sleeps(p: Party) -> bool
     ensures { λ r. ⌜ r ≡ isSleeping (stanceOf (p .step)) ⌝ }
 {
     let step = p.step;
-    let stance = take::stance_of(step);
+    let stance = stance_of(step);
     is_sleeping(stance)
 }

@@ -1,6 +1,6 @@
 // What becomes of a party when its turn's one access gave back a value, or was announced to fail. The region is not touched.
 ghost use mathlib.Core.Path.{_≡_};
-ghost use Rattle.rules.specs.Take.{moveAt, stanceOf, stepAfter, answerOf, counterAfter, closedAfter, takeSpec};
+ghost use Rattle.rules.specs.Take.{moveAt, stepAfter, answerOf, counterAfter, closedAfter, takeSpec};
 use types::Answer;
 use types::Move;
 use types::Own;
@@ -43,34 +43,6 @@ pub fn move_at(
         Step::ShutWakeNe(corrupt) => Move::To(Step::ShutRaiseNf(corrupt, error)),
         Step::ShutRaiseNf(corrupt, first) => Move::To(Step::ShutWakeNf(corrupt, first)),
         Step::ShutWakeNf(corrupt, first) => waits::shut_move(corrupt, first, error),
-    }
-}
-
-pub fn stance_of(step: Step) -> Stance
-    ensures { λ r. ⌜ r ≡ stanceOf step ⌝ }
-{
-    match step {
-        Step::Rest => Stance::Resting,
-        Step::Look => Stance::Moving,
-        Step::Copy => Stance::Copying,
-        Step::Publish(_, _) => Stance::Publishing,
-        Step::Check(_, _) => Stance::Moving,
-        Step::Raise(_, _) => Stance::Moving,
-        Step::Wake(_, _) => Stance::Moving,
-        Step::Gate => Stance::Moving,
-        Step::Epoch => Stance::Moving,
-        Step::Again(_) => Stance::Moving,
-        Step::GateAgain(_) => Stance::Moving,
-        Step::Wait(_) => Stance::Moving,
-        Step::Asleep => Stance::Sleeping,
-        Step::CloseSet => Stance::Closing,
-        Step::CloseRaise => Stance::Moving,
-        Step::CloseWake => Stance::Moving,
-        Step::ShutSet(_) => Stance::Moving,
-        Step::ShutRaiseNe(_) => Stance::Moving,
-        Step::ShutWakeNe(_) => Stance::Moving,
-        Step::ShutRaiseNf(_, _) => Stance::Moving,
-        Step::ShutWakeNf(_, _) => Stance::Moving,
     }
 }
 
@@ -128,7 +100,7 @@ pub fn take(p: Party, value: u64, error: u16) -> Reply
     let own = p.own;
     let step = p.step;
     let moved = move_at(step, own, p.counter, p.blocking, p.length, value, error);
-    let stance = stance_of(step);
+    let stance = sound::stance_of(step);
     let closed = closed_after(stance, p.closed);
     let counter = counter_after(stance, p.counter);
     let onward = step_after(moved, step);

@@ -1,5 +1,6 @@
 // The declared types: a party and what it is told. One party struct and one step enum serve both sides.
 ghost use mathlib.Core.Path.{_≡_};
+ghost use mathlib.Core.Bool.{_&&_};
 ghost use Rattle.types.specs.Answers.{toldOf};
 
 pub enum Side {
@@ -268,4 +269,11 @@ impl Answer {
             Answer::GoesOn => with_values(255, 0, 0, 0),
         }
     }
+}
+
+// A chain of tests is a line of calls of this: `&&` would branch at each.
+pub fn both(a: bool, b: bool) -> bool
+    ensures { λ r. ⌜ r ≡ (a && b) ⌝ }
+{
+    if a { b } else { false }
 }

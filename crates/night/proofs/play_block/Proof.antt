@@ -7,7 +7,8 @@ use native.Mathlib.Nat.{add-sub-cancel-left}
 use lib.ListN.{length, drop}
 use Rattle.words.proofs.Sets.{length-part}
 use Rattle.records.specs.Records.{recordBytes, payloadBytes}
-use Rattle.script.specs.Night.{nightOf, nights, reports}
+use Rattle.opening.specs.Night.{nightOf}
+use Rattle.script.specs.Script.{nights, reports}
 use Rattle.night.specs.Pieces.{wholeIn}
 use Rattle.night.proofs.Blocks.{nights-more, told-more}
 use Rattle.night.proofs.play_block.Statement.{statement}

@@ -1,5 +1,5 @@
 use borrow.Author.Needs.{needs}
-use Rattle.script.specs.Night.{playedBy, regionBy, bufferBy}
+use Rattle.script.specs.Script.{playedBy, regionBy, bufferBy}
 use Rattle.script.proofs.play_asked.Statement.{statement}
 use Rattle.script.proofs.play_asked.Tie as tie
 

@@ -4,7 +4,7 @@ use native.Mathlib.Omega.{arith}
 use lib.Seq.{length-take-le}
 use Rattle.records.specs.Records.{payloadBytes}
 use Rattle.reports.proofs.Clamped.{lent-front, lent-behind}
-use Rattle.script.specs.Night.{playedBy, regionBy, bufferBy}
+use Rattle.script.specs.Script.{playedBy, regionBy, bufferBy}
 use Rattle.script.proofs.play_event.Statement.{statement}
 use Rattle.script.proofs.play_event.Tie as tie
 

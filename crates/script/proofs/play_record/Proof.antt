@@ -1,6 +1,6 @@
 use borrow.Author.Needs.{needs}
 use native.Mathlib.Omega.{arith}
-use Rattle.script.specs.Night.{after, reported, payloadBy}
+use Rattle.script.specs.Script.{after, reported, payloadBy}
 use Rattle.script.proofs.play_record.Statement.{statement}
 use Rattle.script.proofs.play_record.Tie as tie
 

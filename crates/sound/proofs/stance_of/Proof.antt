@@ -1,6 +1,6 @@
 use borrow.Author.Needs.{needs}
-use Rattle.take.proofs.stance_of.Statement.{statement}
-use Rattle.take.proofs.stance_of.Tie as tie
+use Rattle.sound.proofs.stance_of.Statement.{statement}
+use Rattle.sound.proofs.stance_of.Tie as tie
 
 pub stance-of-spec : {M : Type 1} → statement M
 stance-of-spec =

@@ -1,55 +1,18 @@
 -- The whole report of a whole script.
-use mathlib.Core.Bool.{true, _&&_}
+use mathlib.Core.Bool.{_&&_}
 use mathlib.Core.List.{List, [], _++_}
 use Prim.Native.Nat.{ℕ, zero, suc, _/_, _%_}
 use lib.Dec.{eqb}
-use lib.ListN.{length, take, drop, replicate}
+use lib.ListN.{length, take, drop}
 use Rattle.types.specs.Pick.{pick}
 use Rattle.types.specs.Answers.{toldOf, number}
-use Rattle.types.specs.declared.Side.the-variants.{Sender, Recorder}
-use Rattle.types.specs.declared.Bench.{Bench}
 use Rattle.types.specs.declared.Played.{Played}
 use Rattle.types.specs.declared.Answer.the-variants.{BadCall}
-use Rattle.layout.specs.Limits.{totalBytes}
-use Rattle.layout.specs.Create.{created}
-use Rattle.layout.specs.Attach.{attachReply, attachLeaves}
 use Rattle.rules.specs.Bench.{played, playedLeaves, playedBuffer}
 use Rattle.records.specs.declared.Asked.{Asked}
 use Rattle.records.specs.declared.Asked.the-variants.{Plays, Bad}
-use Rattle.records.specs.Records.{recordBytes, payloadBytes, kindIn, payloadIn, askedIn, reportOf, cutReport}
-
--- what the program keeps between two records: the region, both parties, the running push's payload and the pop's buffer,
--- 24 bytes each
-pub record Night : Type 0 where
-  pub region : List ℕ
-  pub bench : Bench
-  pub payload : List ℕ
-  pub buffer : List ℕ
-
-abbrev pub nightOf : (region : List ℕ) → Bench → (payload buffer : List ℕ) → Night
-nightOf region b payload buffer = record { region = region; bench = b; payload = payload; buffer = buffer }
-
--- power 2, slot 32, not-full on, both attached
-abbrev pub power : ℕ
-power = 2
-
-abbrev pub slot : ℕ
-slot = 32
-
-abbrev pub madeRegion : List ℕ
-madeRegion = created (replicate (totalBytes power slot) 0) power slot true 0
-
-abbrev pub senderIn : List ℕ
-senderIn = attachLeaves madeRegion Sender
-
-unfoldable pub start : Night
-start =
-    record {
-      region = attachLeaves senderIn Recorder;
-      bench = record { sender = attachReply madeRegion Sender .party; recorder = attachReply senderIn Recorder .party };
-      payload = replicate payloadBytes 0;
-      buffer = replicate payloadBytes 0;
-    }
+use Rattle.opening.specs.Night.{Night, start}
+use Rattle.records.specs.Records.{recordBytes, kindIn, payloadIn, askedIn, reportOf, cutReport}
 
 -- a turn is lent as much of payload and buffer as the calls named
 abbrev pub lentIn : Night → List ℕ

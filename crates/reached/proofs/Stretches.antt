@@ -18,32 +18,32 @@ use Rattle.types.specs.declared.Step.the-variants.{Rest, Look, Epoch, Asleep}
 use Rattle.layout.specs.Limits.{powerOk, slotOk, payloadCapacity}
 use Rattle.layout.specs.Header.{flagsAt, bellAt}
 use Rattle.layout.specs.Create.{created}
 use Rattle.rules.specs.Sides.{other, rings, sleepBell}
 use Rattle.rules.specs.Take.{stanceOf}
 use Rattle.rules.specs.Next.{nextAt}
 use Rattle.rules.specs.Access.{bufferOf}
 use Rattle.rules.specs.Calls.{sound, ready, at, named, pushSpec, popSpec, spuriousSpec}
 use Rattle.rules.specs.Bench.{settled, played, playedLeaves}
 use Rattle.rules.specs.Run.{Note, Trace, World, Happening, plays, partyIn, takes, traced, happens, begin, rungOf}
 use Rattle.rules.specs.Premises.{Typed, AllTyped, Fair, AllFair}
 use Rattle.rules.specs.Stretch.{moves, tickBy, ticks, Wills, Willing, beforeCopy, holdsEpoch}
 use Rattle.rules.specs.Claims.{Fresh, reached, Lasts}
 use Rattle.rules.specs.Phase.{phase}
 use Rattle.rules.proofs.Leads.{stopAt, Leads}
 use Rattle.rules.proofs.Does.{does, raises as ring}
 use Rattle.rules.proofs.Seats.{moved}
 use Rattle.rules.proofs.RealTurn.{next-step, leads-here, after-turn, turn-is-after, real-turned}
 use Rattle.rules.proofs.RealCalls.{seat-one}
 use Rattle.rules.proofs.RealRun.{power-fits, slot-fits, real-reached, real-happens}
 use Rattle.rules.proofs.Own.{waitsOn}
 use Rattle.rules.proofs.Costs.{Calls, calls-on}
 use Rattle.rules.proofs.Effects.{rung-own}
 use Rattle.rules.proofs.Listening.{mover-is, trace-is}
 use Rattle.rules.proofs.Bound.{Kind, rests, dreams as asleep, acts, kind, notes-kept}
 use Rattle.rules.proofs.Asks.{in-call, typed-both, fair-both}
 use Rattle.rules.proofs.Sized.{blankOf, Sized, sized-turn, sized-happens, sized-run, sized-start, nothing-fits, sound-here, takes-here}
 use Rattle.rules.proofs.Real.{roomIn, nth, blank, Real}
-use Rattle.rules.proofs.Lasts.{BigFine, EpochFine, before-on, big-turn, both-notes, counts-anew, epoch-on, fair-turn, own-notes, stays-open, under-way}
+use Rattle.reached.proofs.Lasts.{BigFine, EpochFine, before-on, big-turn, both-notes, counts-anew, epoch-on, fair-turn, own-notes, stays-open, under-way}
 
 module _ (P S v : ℕ) (on : Bool) (power-ok : powerOk P ≡ true) (slot-ok : slotOk S ≡ true) where
   record Able (side : Side) (w : World) : Type 0 where

@@ -1,0 +1,3 @@
+pub mod Reaches
+pub mod Lasts
+pub mod Stretches
