@@ -32,13 +32,13 @@ pub fn write_slot(region: &mut [u8], own: Own, count: u64, tag: u16, payload: &[
 
 // The payload of the slot of size bytes at at, where it fits.
 fn deliver(f: Fit, region: &[u8], at: usize, size: usize, count: usize, buffer: &mut [u8])
-    requires { ⌜ (at + size ≤ length (now region)) × (f ≡ Fit.Good → (slotHeadBytes + count ≤ size) × (count ≤ length (now buffer))) ⌝ }
+    requires { ⌜ (at + size ≤ length (now region)) × (f ≡ Fit.Fits → (slotHeadBytes + count ≤ size) × (count ≤ length (now buffer))) ⌝ }
     ensures { λ _. ⌜ now (buffer .exit) ≡ copiedOut f (now (buffer .entry)) (part (now (region .entry)) at size) count ⌝ }
 {
     match f {
         Fit::Bad => {}
         Fit::Small => {}
-        Fit::Good => slots::payload_at(region, at, size, count, buffer),
+        Fit::Fits => slots::payload_at(region, at, size, count, buffer),
     }
 }
 

@@ -7,7 +7,8 @@ use native.Mathlib.Omega.{arith}
 use borrow.Author.Tests.{le-leb, eq-eqb, eqb-true}
 use lib.Dec.{eqb}
 use lib.ListN.{length}
-use Rattle.types.specs.Answers.{Check, check, firstOf}
+use Rattle.types.specs.Sides.{other}
+use Rattle.types.specs.Answers.{Test, test, firstOf}
 use Rattle.types.specs.declared.Side.{Side}
 use Rattle.types.specs.declared.Side.the-variants.{Sender, Recorder}
 use Rattle.types.specs.declared.Answer.the-variants.{Done, InvalidLayout, InvalidCapacity, InvalidSlotSize, AlreadyAttached}
@@ -19,12 +20,12 @@ use Rattle.layout.specs.Attach.{flagChecks, ringChecks, attachChecks, fr
 use Rattle.layout.proofs.SizeLaws.{slot-most, power-most, ring-room}
 use Rattle.layout.proofs.Headed.{Fitting, length-headed, headed-magic, headed-version, headed-size, headed-sizes, headed-ring, headed-reserved, headed-power, headed-slot, headed-flags, headed-counter, headed-flagged}
 
--- what is left to check of a whole header
-abbrev pub sizeChecks : (ring power slot flags : ℕ) → Side → List Check
+-- what is left to test of a whole header
+abbrev pub sizeChecks : (ring power slot flags : ℕ) → Side → List Test
 sizeChecks ring power slot flags side =
-    check (slotOk slot) InvalidSlotSize
-    ∷ check (powerOk power) InvalidCapacity
-    ∷ check (eqb ring (ringBytes power slot)) InvalidLayout
+    test (slotOk slot) InvalidSlotSize
+    ∷ test (powerOk power) InvalidCapacity
+    ∷ test (eqb ring (ringBytes power slot)) InvalidLayout
     ∷ flagChecks flags side
 
 module _ (r : List ℕ) (ring power slot flags start : ℕ) (f : Fitting r ring power slot flags start) where
@@ -54,15 +55,11 @@ module _ (r : List ℕ) (ring power slot flags start : ℕ) (f : Fitting r ring 
       rw (e, headed-flags r ring power slot flags start f) (headed-flagged r ring power slot flags start f (setBit (worth (attachMark side)) flags))
 
 -- what a create that is done says
-done-slot : (a b c : Bool) → firstOf (check a InvalidSlotSize ∷ check b InvalidCapacity ∷ check c InvalidLayout ∷ []) ≡ Done 0 0 → (a ≡ true) × (b ≡ true) × (c ≡ true)
+done-slot : (a b c : Bool) → firstOf (test a InvalidSlotSize ∷ test b InvalidCapacity ∷ test c InvalidLayout ∷ []) ≡ Done 0 0 → (a ≡ true) × (b ≡ true) × (c ≡ true)
 done-slot true true true e = (refl, refl, refl)
 done-slot true true false e = absurd (let z : _≡_ {A = ℕ} 0 1 = cc in omega arith)
 done-slot true false c e = absurd (let z : _≡_ {A = ℕ} 0 1 = cc in omega arith)
 done-slot false b c e = absurd (let z : _≡_ {A = ℕ} 0 1 = cc in omega arith)
-
-abbrev other : Side → Side
-other Sender = Recorder
-other Recorder = Sender
 
 -- the attach bits: of one side, and of both
 abbrev pub ownBit : Side → ℕ
@@ -139,7 +136,7 @@ module _ (r : List ℕ) (power slot : ℕ) (notfull : Bool) (start : ℕ) (done 
         start-fits = small;
       }
 
-  -- with any flags, what is left to check is the flags
+  -- with any flags, what is left to test is the flags
   attach-flags : (flags : ℕ) → flags < 256 ^ 4 → (side : Side) → attachAnswer (headed r (ringBytes power slot) power slot flags start) side ≡ firstOf (flagChecks flags side)
   attach-flags flags h side =
       let t = tests in

@@ -7,7 +7,7 @@ use lib.ListN.{length}
 use Rattle.words.specs.Bytes.{bytesAre}
 use Rattle.words.specs.Le.{leAt, putLe}
 use Rattle.types.specs.Pick.{pick}
-use Rattle.types.specs.Answers.{number, Check, check, firstOf}
+use Rattle.types.specs.Answers.{number, Test, test, firstOf}
 use Rattle.types.specs.declared.Side.{Side}
 use Rattle.types.specs.declared.Own.{Own}
 use Rattle.types.specs.declared.Party.{Party}
@@ -34,29 +34,29 @@ sizesOk r =
     && (eqb (leAt 8 r arenaBytesAt) 0 && eqb (leAt 8 r totalSizeAt) (headerBytes + leAt 8 r ringBytesAt))))
 
 -- reserved flags, bit 0, the own attach bit
-unfoldable pub flagChecks : ℕ → Side → List Check
+unfoldable pub flagChecks : ℕ → Side → List Test
 flagChecks flags side =
-    check (ltb flags reservedFrom) InvalidLayout
-    ∷ check (bitOn initialised flags) WouldBlock
-    ∷ check (not (bitOn (worth (attachMark side)) flags)) AlreadyAttached
+    test (ltb flags reservedFrom) InvalidLayout
+    ∷ test (bitOn initialised flags) WouldBlock
+    ∷ test (not (bitOn (worth (attachMark side)) flags)) AlreadyAttached
     ∷ []
 
 -- slot size, power, ring bytes, reserved bytes, flags
-unfoldable pub ringChecks : List ℕ → Side → List Check
+unfoldable pub ringChecks : List ℕ → Side → List Test
 ringChecks r side =
-    check (slotOk (leAt 4 r slotSizeAt)) InvalidSlotSize
-    ∷ check (powerOk (leAt 1 r powerAt)) InvalidCapacity
-    ∷ check (eqb (leAt 8 r ringBytesAt) (ringBytes (leAt 1 r powerAt) (leAt 4 r slotSizeAt))) InvalidLayout
-    ∷ check (allZero r reserved) InvalidLayout
+    test (slotOk (leAt 4 r slotSizeAt)) InvalidSlotSize
+    ∷ test (powerOk (leAt 1 r powerAt)) InvalidCapacity
+    ∷ test (eqb (leAt 8 r ringBytesAt) (ringBytes (leAt 1 r powerAt) (leAt 4 r slotSizeAt))) InvalidLayout
+    ∷ test (allZero r reserved) InvalidLayout
     ∷ flagChecks (leAt 4 r flagsAt) side
 
-unfoldable pub attachChecks : List ℕ → Side → List Check
+unfoldable pub attachChecks : List ℕ → Side → List Test
 attachChecks r side =
-    check (leb headerBytes (length r)) InvalidLayout
-    ∷ check (magicOk r) InvalidMagic
-    ∷ check (versionOk r) UnsupportedVersion
-    ∷ check (eqb (leAt 4 r headerSizeAt) headerBytes) InvalidHeaderSize
-    ∷ check (sizesOk r) InvalidLayout
+    test (leb headerBytes (length r)) InvalidLayout
+    ∷ test (magicOk r) InvalidMagic
+    ∷ test (versionOk r) UnsupportedVersion
+    ∷ test (eqb (leAt 4 r headerSizeAt) headerBytes) InvalidHeaderSize
+    ∷ test (sizesOk r) InvalidLayout
     ∷ ringChecks r side
 
 unfoldable pub attachAnswer : List ℕ → Side → Answer

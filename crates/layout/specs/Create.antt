@@ -5,7 +5,7 @@ use Prim.Native.Nat.{ℕ, _+_}
 use lib.Dec.{eqb}
 use lib.ListN.{length}
 use Rattle.types.specs.Pick.{pick}
-use Rattle.types.specs.Answers.{number, Check, check, firstOf}
+use Rattle.types.specs.Answers.{number, Test, test, firstOf}
 use Rattle.types.specs.declared.Answer.{Answer}
 use Rattle.types.specs.declared.Answer.the-variants.{InvalidLayout, InvalidCapacity, InvalidSlotSize}
 use Rattle.layout.specs.Limits.{slotOk, powerOk, ringBytes, totalBytes}
@@ -13,11 +13,11 @@ use Rattle.layout.specs.Flags.{initialised, notFullOn}
 use Rattle.layout.specs.Header.{headed}
 
 -- in this order: 6, 5, 4
-abbrev pub createChecks : (bytes power slot : ℕ) → List Check
+abbrev pub createChecks : (bytes power slot : ℕ) → List Test
 createChecks bytes power slot =
-    check (slotOk slot) InvalidSlotSize
-    ∷ check (powerOk power) InvalidCapacity
-    ∷ check (eqb bytes (totalBytes power slot)) InvalidLayout
+    test (slotOk slot) InvalidSlotSize
+    ∷ test (powerOk power) InvalidCapacity
+    ∷ test (eqb bytes (totalBytes power slot)) InvalidLayout
     ∷ []
 
 unfoldable pub createAnswer : (bytes power slot : ℕ) → Answer

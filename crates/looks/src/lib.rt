@@ -9,15 +9,15 @@ use types::Nap;
 use types::Room;
 use types::Side;
 
-pub fn room_with(count: u64, capacity: u64, stuck: u64) -> Room
-    ensures { λ r. ⌜ r ≡ roomWith count capacity stuck ⌝ }
+pub fn room_with(count: u64, capacity: u64, blocked: u64) -> Room
+    ensures { λ r. ⌜ r ≡ roomWith count capacity blocked ⌝ }
 {
     let above = capacity < count;
-    let nothing = count == stuck;
+    let nothing = count == blocked;
     if above {
         return Room::Corrupt;
     }
-    if nothing { Room::Stuck } else { Room::Free }
+    if nothing { Room::Blocked } else { Room::Free }
 }
 
 // P1, C1, B3 and W3: the other side's counter.
@@ -25,8 +25,8 @@ pub fn room_of(side: Side, capacity: u64, own: u64, their: u64) -> Room
     ensures { λ r. ⌜ r ≡ roomOf side capacity own their ⌝ }
 {
     let count = sides::used(side, own, their);
-    let stuck = sides::limit(side, capacity);
-    room_with(count, capacity, stuck)
+    let blocked = sides::limit(side, capacity);
+    room_with(count, capacity, blocked)
 }
 
 // P4 and C4: whether the other side was blocked before the own counter moved on.
@@ -80,7 +80,7 @@ pub fn fit_of(length: u16, most: u32, buffer: u32) -> Fit
     if bad {
         return Fit::Bad;
     }
-    if small { Fit::Small } else { Fit::Good }
+    if small { Fit::Small } else { Fit::Fits }
 }
 
 // The errors of a wait that are told apart.
@@ -103,7 +103,7 @@ pub fn nap_of(error: u16, same: bool) -> Nap
     let fine = error == Error::NONE;
     let interrupted = error == Error::INTERRUPTED;
     let again = error == Error::AGAIN;
-    let late = error == Error::TIMED_OUT;
+    let timed_out = error == Error::TIMED_OUT;
     if fine {
         if same {
             return Nap::Sleeps;
@@ -116,5 +116,5 @@ pub fn nap_of(error: u16, same: bool) -> Nap
     if again {
         return Nap::Returns;
     }
-    if late { Nap::Late } else { Nap::Fails }
+    if timed_out { Nap::TimedOut } else { Nap::Fails }
 }

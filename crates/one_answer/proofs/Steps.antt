@@ -9,8 +9,8 @@ room-move κs a z z′ ws ws′ p q = (p ∙ sym q, refl)
 pub goes-or-ends : OneAnswer code.goes_or_ends.Kinds.ps code.goes_or_ends.Kinds.r code.goes_or_ends.Reads.Post
 goes-or-ends κs a z z′ ws ws′ p q = (p ∙ sym q, refl)
 
-pub stuck-move : OneAnswer code.stuck_move.Kinds.ps code.stuck_move.Kinds.r code.stuck_move.Reads.Post
-stuck-move κs a z z′ ws ws′ p q = (p ∙ sym q, refl)
+pub blocked-move : OneAnswer code.blocked_move.Kinds.ps code.blocked_move.Kinds.r code.blocked_move.Reads.Post
+blocked-move κs a z z′ ws ws′ p q = (p ∙ sym q, refl)
 
 pub look-move : OneAnswer code.look_move.Kinds.ps code.look_move.Kinds.r code.look_move.Reads.Post
 look-move κs a z z′ ws ws′ p q = (p ∙ sym q, refl)

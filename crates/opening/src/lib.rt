@@ -22,7 +22,7 @@ fn wipe(s: &mut [u8])
 }
 
 // A fresh night: the region created, both parties attached, nothing pushed and nothing popped.
-pub fn begin(region: &mut [u8; 512], payload: &mut [u8; 24], buffer: &mut [u8; 24]) -> Bench
+pub fn start(region: &mut [u8; 512], payload: &mut [u8; 24], buffer: &mut [u8; 24]) -> Bench
     ensures { λ r. ⌜ nightOf (now (region .exit)) r (now (payload .exit)) (now (buffer .exit)) ≡ start ⌝ }
 {
     wipe(payload);

@@ -53,7 +53,7 @@ fn main() {
     let mut buffer = [0u8; 24];
     let mut input = io::large_buffer();
     let mut out = io::large_buffer();
-    let mut bench = opening::begin(&mut region, &mut payload, &mut buffer);
+    let mut bench = opening::start(&mut region, &mut payload, &mut buffer);
     let mut left: usize = 0;
     let mut reads: u64 = 0;
     while reads < READS {

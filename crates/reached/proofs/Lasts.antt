@@ -155,7 +155,7 @@ module _ (p : Party) (payload buffer : List ℕ) (t : Trace) where
   counts-anew Sender = refl
   counts-anew Recorder = refl
 
-pub both-notes : (side : Side) (t u : Trace) → notesOf side u ≡ notesOf side t → notesOf (other side) u ≡ notesOf (other side) t → (u .sent ≡ t .sent) × (u .got ≡ t .got)
+pub both-notes : (side : Side) (t u : Trace) → notesOf side u ≡ notesOf side t → notesOf (other side) u ≡ notesOf (other side) t → (u .sent ≡ t .sent) × (u .delivered ≡ t .delivered)
 both-notes Sender t u a b = (a, b)
 both-notes Recorder t u a b = (b, a)
 
@@ -165,7 +165,7 @@ EpochFine side w = holdsEpoch (partyIn w side .step) ≡ true → rungOf side (w
 
 abbrev pub BigFine : Side → World → Type 0
 BigFine side w =
-    side ≡ Recorder → beforeCopy (partyIn w side .step) ≡ true → (n : Note) (rest : List Note) → w .trace .sent ≡ w .trace .got ++ (n ∷ rest) → length (n .body) ≤ partyIn w side .length
+    side ≡ Recorder → beforeCopy (partyIn w side .step) ≡ true → (n : Note) (rest : List Note) → w .trace .sent ≡ w .trace .delivered ++ (n ∷ rest) → length (n .body) ≤ partyIn w side .length
 
 pub under-way : (side : Side) (w : World) → Underway side w → EpochFine side w × BigFine side w
 under-way Sender w u = (u, λ e. absurd (let z : _≡_ {A = ℕ} 0 1 = cc in omega arith))

@@ -27,12 +27,12 @@ use Rattle.rules.specs.Next.{nextSpec}
 use Rattle.rules.specs.Run.{happens, run}
 use Rattle.rules.specs.Steps.{lookMove, copyMove, publishMove, checkMove, wakeMove, gateMove, againMove, waitMove, closeMove, shutMove}
 use Rattle.rules.specs.Take.{moveOf, takeSpec}
-use Rattle.rules.specs.Turn.{goes, runSpec, runLeaves, runBuffer, turnSpec, turnLeaves}
+use Rattle.rules.specs.Turn.{goes, actSpec, actLeaves, actBuffer, turnSpec, turnLeaves}
 use Rattle.words.specs.Bytes.{zeros, bytesAre}
 use Rattle.words.specs.Le.{leAt, leBytes, putLe}
 use Rattle.words.specs.Wrap.{plus, minus}
 use Rattle.words.proofs.Runs.{and-left, and-right}
-use Rattle.rules.specs.Run.{Note, partyIn, World, Happening, attaches, plays, begin}
+use Rattle.rules.specs.Run.{Note, partyIn, World, Happening, attaches, plays, opened}
 use Rattle.rules.specs.Premises.{AllTyped, rung, FairTurn, Fair, AllFair}
 use Rattle.rules.specs.Stretch.{beats, Big, Wills, Willing, inCall}
 use Rattle.rules.specs.Claims.{room, Fresh, Tight}
@@ -66,9 +66,9 @@ abbrev all-short : List Note → ℕ → Bool
 all-short [] n = true
 all-short (x ∷ xs) n = leb (length (x .body)) n && all-short xs n
 
-short-at : (got : List Note) (x : Note) (rest : List Note) (n : ℕ) → all-short (got ++ (x ∷ rest)) n ≡ true → length (x .body) ≤ n
+short-at : (delivered : List Note) (x : Note) (rest : List Note) (n : ℕ) → all-short (delivered ++ (x ∷ rest)) n ≡ true → length (x .body) ≤ n
 short-at [] x rest n e = leb-true (length (x .body)) n (and-left (leb (length (x .body)) n) (all-short rest n) e)
-short-at (y ∷ got) x rest n e = short-at got x rest n (and-right (leb (length (y .body)) n) (all-short (got ++ (x ∷ rest)) n) e)
+short-at (y ∷ delivered) x rest n e = short-at delivered x rest n (and-right (leb (length (y .body)) n) (all-short (delivered ++ (x ∷ rest)) n) e)
 
 -- the recorder's bell, far from 2^32 raises; nothing fails
 abbrev calm-one : Happening → Bool
@@ -127,7 +127,7 @@ asks [] w = true
 asks (h ∷ hs) w = (asks-one h && all-short (w .trace .sent) (partyIn w Recorder .length)) && asks hs (happens h w)
 
 big-here : (w : World) → all-short (w .trace .sent) (partyIn w Recorder .length) ≡ true → Big Recorder w
-big-here w e = λ at n rest q. short-at (w .trace .got) n rest (partyIn w Recorder .length) (subst (λ (x : List Note). all-short x (partyIn w Recorder .length) ≡ true) q e)
+big-here w e = λ at n rest q. short-at (w .trace .delivered) n rest (partyIn w Recorder .length) (subst (λ (x : List Note). all-short x (partyIn w Recorder .length) ≡ true) q e)
 
 asks-will-one : (h : Happening) (w : World) → asks-one h ≡ true → Big Recorder w → Wills Recorder h w
 asks-will-one (attaches side) w e h = absurd (let z : _≡_ {A = ℕ} 0 1 = cc in omega arith)
@@ -149,13 +149,13 @@ asks-will (h ∷ hs) w e =
     (asks-will-one h w (and-left (asks-one h) _ one) (big-here w (and-right (asks-one h) _ one)), asks-will hs (happens h w) (and-right now _ e))
 
 abbrev made : World
-made = run before (begin start)
+made = run before (opened start)
 
 -- computed, byte by byte
 computed :
-    (createAnswer 416 1 16 ≡ Done 0 0) × (calm (before ++ ten) (begin start) ≡ true) × (asks ten made ≡ true) × (partyIn made Sender .step ≡ Rest) × (inCall (partyIn made Recorder .step) ≡ true)
-    × (room Recorder (capacity 1) made ≡ 2) × (beats ten made ≡ 10) × (room Recorder (capacity 1) (run (before ++ ten) (begin start)) ≡ 1)
-unfolding magicOk versionOk sizesOk flagChecks ringChecks attachChecks attachAnswer attachReply attachLeaves createAnswer created blank headed powerOk slotOk capacity payloadCapacity ringBytes totalBytes slotAt slotBytes slotPut bufferPut valueOf leavesOf bufferOf wakened settled turned played playedLeaves sound ready pushSpec popSpec roomOf wasBlocked doorOf fitOf napOf nextSpec happens run lookMove copyMove publishMove checkMove wakeMove gateMove againMove waitMove closeMove shutMove moveOf takeSpec goes runSpec runLeaves runBuffer turnSpec turnLeaves zeros bytesAre leAt leBytes putLe plus minus
+    (createAnswer 416 1 16 ≡ Done 0 0) × (calm (before ++ ten) (opened start) ≡ true) × (asks ten made ≡ true) × (partyIn made Sender .step ≡ Rest) × (inCall (partyIn made Recorder .step) ≡ true)
+    × (room Recorder (capacity 1) made ≡ 2) × (beats ten made ≡ 10) × (room Recorder (capacity 1) (run (before ++ ten) (opened start)) ≡ 1)
+unfolding magicOk versionOk sizesOk flagChecks ringChecks attachChecks attachAnswer attachReply attachLeaves createAnswer created blank headed powerOk slotOk capacity payloadCapacity ringBytes totalBytes slotAt slotBytes slotPut bufferPut valueOf leavesOf bufferOf wakened settled turned played playedLeaves sound ready pushSpec popSpec roomOf wasBlocked doorOf fitOf napOf nextSpec happens run lookMove copyMove publishMove checkMove wakeMove gateMove againMove waitMove closeMove shutMove moveOf takeSpec goes actSpec actLeaves actBuffer turnSpec turnLeaves zeros bytesAre leAt leBytes putLe plus minus
 computed = (refl, refl, refl, refl, refl, refl, refl, refl)
 
 typed-here : AllTyped (before ++ ten)
@@ -164,5 +164,5 @@ typed-here = (tt, (tt, (tt, (tt, (omega arith, (tt, (tt, (tt, (tt, (tt, (tt, (om
 pub tight : Fresh (replicate 416 0) 1 16 true 0 × Tight (replicate 416 0) 1 16 true 0
 tight = (
   (computed .0, omega arith),
-  (before, (ten, ((typed-here, (calm-fair (before ++ ten) (begin start) (computed .1), (inl (computed .3), (computed .4, asks-will ten made (computed .2))))), (rw (computed .5, computed .6), computed .7)))),
+  (before, (ten, (((typed-here, (inl (computed .3), (computed .4, asks-will ten made (computed .2)))), calm-fair (before ++ ten) (opened start) (computed .1)), (rw (computed .5, computed .6), computed .7)))),
 )

@@ -24,7 +24,7 @@ use Rattle.rules.specs.Next.{nextAt}
 use Rattle.rules.specs.Access.{bufferOf}
 use Rattle.rules.specs.Calls.{sound, ready, at, named, pushSpec, popSpec, spuriousSpec}
 use Rattle.rules.specs.Bench.{settled, played, playedLeaves}
-use Rattle.rules.specs.Run.{Note, Trace, World, Happening, plays, partyIn, takes, traced, happens, begin, rungOf}
+use Rattle.rules.specs.Run.{Note, Trace, World, Happening, plays, partyIn, takes, traced, happens, opened, rungOf}
 use Rattle.rules.specs.Premises.{Typed, AllTyped, Fair, AllFair}
 use Rattle.rules.specs.Stretch.{moves, tickBy, ticks, Wills, Willing, beforeCopy, holdsEpoch}
 use Rattle.rules.specs.Claims.{Fresh, reached, Lasts}
@@ -182,11 +182,11 @@ module _ (P S v : ℕ) (on : Bool) (power-ok : powerOk P ≡ true) (slot-ok : sl
   ask Recorder = plays (Pop false (payloadCapacity S)) [] []
 
   -- a note that waits fits its slot
-  body-most : (w : World) → Real P S v on w → (n : Note) (rest : List Note) → w .trace .sent ≡ w .trace .got ++ (n ∷ rest) → length (n .body) ≤ payloadCapacity S
+  body-most : (w : World) → Real P S v on w → (n : Note) (rest : List Note) → w .trace .sent ≡ w .trace .delivered ++ (n ∷ rest) → length (n .body) ≤ payloadCapacity S
   body-most w real n rest q =
-      let l : length (w .trace .sent) ≡ length (w .trace .got) + suc (length rest) = ap length q ∙ length-append (w .trace .got) (n ∷ rest) in
-      let e : nth (w .trace .sent) (length (w .trace .got)) ≡ n = ap (λ (x : List Note). nth x (length (w .trace .got))) q ∙ getD-append-seam (w .trace .got) n rest blank in
-      rw e at (real .queue .ring (length (w .trace .got)) (omega arith) (omega arith) .body-fits)
+      let l : length (w .trace .sent) ≡ length (w .trace .delivered) + suc (length rest) = ap length q ∙ length-append (w .trace .delivered) (n ∷ rest) in
+      let e : nth (w .trace .sent) (length (w .trace .delivered)) ≡ n = ap (λ (x : List Note). nth x (length (w .trace .delivered))) q ∙ getD-append-seam (w .trace .delivered) n rest blank in
+      rw e at (real .queue .ring (length (w .trace .delivered)) (omega arith) (omega arith) .body-fits)
 
   ask-party : (side : Side) (w : World) → Able side w → partyIn w side .step ≡ Rest → partyIn (happens (ask side) w) side ≡ named false 0 (asked side) (partyIn w side)
   unfolding happens played playedLeaves settled pushSpec popSpec
@@ -282,18 +282,18 @@ module _ (P S v : ℕ) (on : Bool) (power-ok : powerOk P ≡ true) (slot-ok : sl
 
 module _ (r : List ℕ) (P S : ℕ) (on : Bool) (v : ℕ) (fresh : Fresh r P S on v) where
   pub lasts : (side : Side) → Lasts r P S on v side
-  lasts side hs t f still call here opened under n =
+  lasts side hs t f quiet call here unclosed under n =
       let w = reached r P S on v hs in
       let fine = under-way side w under in
       let able : Able P S v on (power-fits r P S on v fresh) (slot-fits r P S on v fresh) side w =
       record {
         real = real-reached r P S on v fresh hs t;
-        sized = sized-run hs (begin (created r P S on v)) (sized-start (created r P S on v));
+        sized = sized-run hs (opened (created r P S on v)) (sized-start (created r P S on v));
         here = here;
-        open-still = opened;
+        open-still = unclosed;
         calls = in-call (partyIn w side .step) call;
         epoch-fine = fine .0;
         big-fine = fine .1;
       } in
-      let got = goes P S v on (power-fits r P S on v fresh) (slot-fits r P S on v fresh) side n w able in
-      (got .ms, ((typed-both hs (got .ms) t (got .typed), (fair-both side hs (got .ms) (begin (created r P S on v)) f (got .fair), (still, (call, got .will)))), got .count))
+      let found = goes P S v on (power-fits r P S on v fresh) (slot-fits r P S on v fresh) side n w able in
+      (found .ms, (((typed-both hs (found .ms) t (found .typed), (quiet, (call, found .will))), fair-both side hs (found .ms) (opened (created r P S on v)) f (found .fair)), found .count))

@@ -6,22 +6,22 @@ use Prim.Native.Nat.{ℕ, _%_, _^_}
 use lib.Dec.{eqb, leb}
 use lib.ListN.{length}
 use Rattle.types.specs.Pick.{pick}
-use Rattle.types.specs.Answers.{number, Check, check, firstOf}
+use Rattle.types.specs.Answers.{number, Test, test, firstOf}
 use Rattle.types.specs.declared.Side.{Side}
 use Rattle.types.specs.declared.Side.the-variants.{Sender, Recorder}
 use Rattle.types.specs.declared.Bell.the-variants.{NotEmpty, NotFull}
 use Rattle.types.specs.declared.Party.{Party}
 use Rattle.types.specs.declared.Fault.{Fault}
 use Rattle.types.specs.declared.Room.{Room}
-use Rattle.types.specs.declared.Room.the-variants.{Corrupt, Stuck, Free}
+use Rattle.types.specs.declared.Room.the-variants.{Corrupt, Blocked, Free}
 use Rattle.types.specs.declared.Door.{Door}
 use Rattle.types.specs.declared.Door.the-variants.{Shut, Left, Open}
 use Rattle.types.specs.declared.Fit.{Fit}
-use Rattle.types.specs.declared.Fit.the-variants.{Bad, Small, Good}
+use Rattle.types.specs.declared.Fit.the-variants.{Bad, Small, Fits}
 use Rattle.types.specs.declared.Nap.{Nap}
-use Rattle.types.specs.declared.Nap.the-variants.{Sleeps, Returns, Late, Fails}
+use Rattle.types.specs.declared.Nap.the-variants.{Sleeps, Returns, TimedOut, Fails}
 use Rattle.types.specs.declared.Step.{Step}
-use Rattle.types.specs.declared.Step.the-variants.{Rest, Look, Copy, Publish, Check as Checking, Raise, Wake, Gate, Epoch, Again, GateAgain, Wait, Asleep, CloseSet, CloseRaise, CloseWake, ShutSet, ShutRaiseNe, ShutWakeNe, ShutRaiseNf, ShutWakeNf}
+use Rattle.types.specs.declared.Step.the-variants.{Rest, Look, Copy, Publish, Check, Raise, Wake, Gate, Epoch, Again, GateAgain, Wait, Asleep, CloseSet, CloseRaise, CloseWake, ShutSet, ShutRaiseNe, ShutWakeNe, ShutRaiseNf, ShutWakeNf}
 use Rattle.types.specs.declared.Move.the-variants.{To, End}
 use Rattle.types.specs.declared.Answer.{Answer}
 use Rattle.types.specs.declared.Answer.the-variants.{Done, CorruptIndices, Syscall}
@@ -30,21 +30,21 @@ use Rattle.layout.specs.Create.{createChecks, createAnswer}
 use Rattle.layout.specs.Attach.{attachChecks, attachAnswer, attachReply}
 use Rattle.rules.specs.Sides.{ringBell, sleepBell, rings, waitOp, wakeOp}
 use Rattle.rules.specs.Looks.{roomOf, wasBlocked, doorOf, headLength, headTag, fitOf, napOf}
-use Rattle.rules.specs.Steps.{roomMove, stuckMove, lookMove, fitMove, copyWith, copyMove, publishMove, checkMove, wakeMove, doorMove, gateMove, againMove, napMove, waitMove, closeMove, shutMove}
+use Rattle.rules.specs.Steps.{roomMove, blockedMove, lookMove, fitMove, copyWith, copyMove, publishMove, checkMove, wakeMove, doorMove, gateMove, againMove, napMove, waitMove, closeMove, shutMove}
 use Rattle.rules.specs.Take.{stanceOf, moveAt, answerOf, moveOf, takeSpec}
 use Rattle.rules.specs.Next.{nextSpec}
 use Rattle.rules.specs.Access.{valueOf}
 use Rattle.rules.specs.Calls.{isSleeping, sound, ready, pushSpec, popSpec, closeSpec, shutSpec, spuriousSpec, timeoutSpec}
-use Rattle.rules.specs.Turn.{errorOf, taken, runSpec, turnSpec}
-use Rattle.rules.specs.Given.{Checked, passed, fails, holds, EndsWith, published, checked, woke, closed-alone, closed, shut, corrupt, bad-slot, too-small, full, empty, left, left-again, down, down-again, late, wake-failed, close-failed, wait-failed, shut-failed, shut-failed-last, resting, asleep, goes-on, Ask, create, attach, push, pop, close, shutdown, spurious, timeout, turn, Given, created, attached, push-bad, pop-bad, close-bad, shutdown-bad, spurious-bad, timeout-bad, turn-bad, push-closed, pop-closed, close-closed, push-off, push-long, push-begun, pop-begun, close-begun, shutdown-begun, spurious-idle, timeout-idle, spurious-taken, timeout-taken, turn-taken, answered}
+use Rattle.rules.specs.Turn.{errorOf, taken, actSpec, turnSpec}
+use Rattle.rules.specs.Given.{Checked, passed, fails, holds, EndsWith, published, checked, woke, closed-alone, closed, shut, corrupt, bad-slot, too-small, full, empty, left, left-again, down, down-again, timed-out, wake-failed, close-failed, wait-failed, shut-failed, shut-failed-last, resting, asleep, goes-on, Ask, create, attach, push, pop, close, shutdown, spurious, timeout, turn, Given, created, attached, push-bad, pop-bad, close-bad, shutdown-bad, spurious-bad, timeout-bad, turn-bad, push-closed, pop-closed, close-closed, push-off, push-long, push-begun, pop-begun, close-begun, shutdown-begun, spurious-idle, timeout-idle, spurious-taken, timeout-taken, turn-taken, answered}
 
 -- a list of checks
-pub checked-first : (cs : List Check) → Checked cs (firstOf cs)
+pub checked-first : (cs : List Test) → Checked cs (firstOf cs)
 checked-first [] = passed
-checked-first (check true a ∷ cs) = holds refl (checked-first cs)
-checked-first (check false a ∷ cs) = fails refl
+checked-first (test true a ∷ cs) = holds refl (checked-first cs)
+checked-first (test false a ∷ cs) = fails refl
 
-pub checked-only : {cs : List Check} {x : Answer} → Checked cs x → firstOf cs ≡ x
+pub checked-only : {cs : List Test} {x : Answer} → Checked cs x → firstOf cs ≡ x
 checked-only passed = refl
 checked-only (fails e) = rw e
 checked-only (holds e c) = rw e (checked-only c)
@@ -67,7 +67,7 @@ ends-only (left s d) = rw (s, d)
 ends-only (left-again s d) = rw (s, d)
 ends-only (down s d) = rw (s, d)
 ends-only (down-again s d) = rw (s, d)
-ends-only (late s n) = rw (s, n)
+ends-only (timed-out s n) = rw (s, n)
 ends-only (wake-failed s z) = rw (s, z)
 ends-only (close-failed s z) = rw (s, z)
 ends-only (wait-failed s n) = rw (s, n)
@@ -86,13 +86,13 @@ module _ (p : Party) (v e : ℕ) where
   fit-here = fitOf (headLength v) (payloadCapacity (p .own .slot)) (p .length)
 
   look-ends : p .step ≡ Look → (r : Room) → room-here ≡ r → (b : Bool) → p .blocking ≡ b → (q : Side) → p .own .side ≡ q
-      → EndsWith p v e (answerOf (roomMove r (stuckMove b q)))
+      → EndsWith p v e (answerOf (roomMove r (blockedMove b q)))
   unfolding moveOf lookMove
   look-ends s Corrupt r b k q o = goes-on {s = ShutSet true} (rw (s, r))
   look-ends s Free r b k q o = goes-on {s = Copy} (rw (s, r))
-  look-ends s Stuck r true k q o = goes-on {s = Gate} (rw (s, r, k))
-  look-ends s Stuck r false k Sender o = full s o k (rw o at r)
-  look-ends s Stuck r false k Recorder o = empty s o k (rw o at r)
+  look-ends s Blocked r true k q o = goes-on {s = Gate} (rw (s, r, k))
+  look-ends s Blocked r false k Sender o = full s o k (rw o at r)
+  look-ends s Blocked r false k Recorder o = empty s o k (rw o at r)
 
   copy-ends : p .step ≡ Copy → (q : Side) → p .own .side ≡ q → (f : Fit) → fit-here ≡ f
       → EndsWith p v e (answerOf (copyWith q (fitMove f (headLength v) (headTag v))))
@@ -100,15 +100,15 @@ module _ (p : Party) (v e : ℕ) where
   copy-ends s Sender o f h = goes-on {s = Publish 0 0} (rw (s, o))
   copy-ends s Recorder o Bad h = bad-slot s o h
   copy-ends s Recorder o Small h = too-small s o h
-  copy-ends s Recorder o Good h = goes-on {s = Publish (headLength v) (headTag v)} (rw (s, o, h))
+  copy-ends s Recorder o Fits h = goes-on {s = Publish (headLength v) (headTag v)} (rw (s, o, h))
 
   publish-ends : (l t : ℕ) → p .step ≡ Publish l t → (b : Bool) → rings (p .own .side) (p .own .notfull) ≡ b
-      → EndsWith p v e (answerOf (pick b (To (Checking l t)) (End (Done l t))))
+      → EndsWith p v e (answerOf (pick b (To (Check l t)) (End (Done l t))))
   unfolding moveOf publishMove
-  publish-ends l t s true h = goes-on {s = Checking l t} (rw (s, h))
+  publish-ends l t s true h = goes-on {s = Check l t} (rw (s, h))
   publish-ends l t s false h = published s h
 
-  check-ends : (l t : ℕ) → p .step ≡ Checking l t → (b : Bool) → wasBlocked (p .own .side) (capacity (p .own .power)) (p .counter) v ≡ b
+  check-ends : (l t : ℕ) → p .step ≡ Check l t → (b : Bool) → wasBlocked (p .own .side) (capacity (p .own .power)) (p .counter) v ≡ b
       → EndsWith p v e (answerOf (pick b (To (Raise l t)) (End (Done l t))))
   unfolding moveOf checkMove
   check-ends l t s true h = goes-on {s = Raise l t} (rw (s, h))
@@ -133,14 +133,14 @@ module _ (p : Party) (v e : ℕ) where
   again-ends : (n : ℕ) → p .step ≡ Again n → (r : Room) → room-here ≡ r → EndsWith p v e (answerOf (roomMove r (To (GateAgain n))))
   unfolding moveOf againMove
   again-ends n s Corrupt h = goes-on {s = ShutSet true} (rw (s, h))
-  again-ends n s Stuck h = goes-on {s = GateAgain n} (rw (s, h))
+  again-ends n s Blocked h = goes-on {s = GateAgain n} (rw (s, h))
   again-ends n s Free h = goes-on {s = Copy} (rw (s, h))
 
   wait-ends : (n : ℕ) → p .step ≡ Wait n → (k : Nap) → napOf e (eqb v n) ≡ k → EndsWith p v e (answerOf (napMove k (waitOp (sleepBell (p .own .side))) e))
   unfolding moveOf waitMove
   wait-ends n s Sleeps h = goes-on {s = Asleep} (rw (s, h))
   wait-ends n s Returns h = goes-on {s = Look} (rw (s, h))
-  wait-ends n s Late h = late s h
+  wait-ends n s TimedOut h = timed-out s h
   wait-ends n s Fails h = wait-failed s h
 
   close-set-ends : p .step ≡ CloseSet → (b : Bool) → rings (p .own .side) (p .own .notfull) ≡ b → EndsWith p v e (answerOf (pick b (To CloseRaise) (End (Done 0 0))))
@@ -165,7 +165,7 @@ module _ (p : Party) (v e : ℕ) where
   step-ends Look s = look-ends s room-here refl (p .blocking) refl (p .own .side) refl
   step-ends Copy s = copy-ends s (p .own .side) refl fit-here refl
   step-ends (Publish l t) s = publish-ends l t s (rings (p .own .side) (p .own .notfull)) refl
-  step-ends (Checking l t) s = check-ends l t s (wasBlocked (p .own .side) (capacity (p .own .power)) (p .counter) v) refl
+  step-ends (Check l t) s = check-ends l t s (wasBlocked (p .own .side) (capacity (p .own .power)) (p .counter) v) refl
   step-ends (Raise l t) s = goes-on {s = Wake l t} (rw s)
   step-ends (Wake l t) s = wake-ends l t s (eqb e 0) refl
   step-ends Gate s = gate-ends s (doorOf (p .own .side) v) refl
@@ -189,7 +189,7 @@ module _ (p : Party) (v e : ℕ) where
 
 -- every call and turn
 pub given-only : {a : Ask} {x : Answer} → Given a x → answered a ≡ x
-unfolding createAnswer attachAnswer attachReply pushSpec popSpec closeSpec shutSpec spuriousSpec timeoutSpec turnSpec runSpec takeSpec
+unfolding createAnswer attachAnswer attachReply pushSpec popSpec closeSpec shutSpec spuriousSpec timeoutSpec turnSpec actSpec takeSpec
 given-only (created c) = checked-only c
 given-only (attached c) = checked-only c
 given-only (push-bad h) = rw (h, answered)

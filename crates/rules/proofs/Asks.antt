@@ -25,7 +25,7 @@ use Rattle.rules.specs.Sides.{other, rings}
 use Rattle.rules.specs.Take.{stanceOf}
 use Rattle.rules.specs.Calls.{isSleeping, sound, ready, reply, at, named, begins, rouses, pushSpec, popSpec, spuriousSpec, timeoutSpec}
 use Rattle.rules.specs.Bench.{settled, played, playedLeaves}
-use Rattle.rules.specs.Run.{Note, World, Happening, attaches, plays, partyIn, happens, run, begin}
+use Rattle.rules.specs.Run.{Note, World, Happening, attaches, plays, partyIn, happens, run, opened}
 use Rattle.rules.specs.Premises.{Typed, AllTyped, AllFair}
 use Rattle.rules.specs.Stretch.{moves, calling, tickBy, ticksBy, Wills, Willing, inCall, notesOf, countsBy, Big}
 use Rattle.rules.specs.Claims.{room, Fresh, reached, Willed, Emptied, BoundedTicks, Bounded}
@@ -35,7 +35,7 @@ use Rattle.rules.proofs.Taken.{turnWorld}
 use Rattle.rules.proofs.RealCalls.{Changed, seat-one, seat-two, seated, begins-one, rouses-one, push-changes, pop-changes, spurious-changes, timeout-changes}
 use Rattle.rules.proofs.RealRun.{power-fits, slot-fits, real-reached, real-happens}
 use Rattle.rules.proofs.Costs.{cost, Calls, cost-le, cost-none}
-use Rattle.rules.proofs.Fairly.{Ready, ready-happens, still-duty, dozes}
+use Rattle.rules.proofs.Fairly.{Ready, ready-happens, quiet-duty, dozes}
 use Rattle.rules.proofs.Causes.{room-is, ready-reached}
 use Rattle.rules.proofs.Heard.{none, duty}
 use Rattle.rules.proofs.Bound.{has-cause, Count, by-moves, by-calling, Stint, Awake, going-turned}
@@ -205,9 +205,9 @@ module _ (r : List ℕ) (P S : ℕ) (on : Bool) (v : ℕ) (fresh : Fresh r P S o
       let k = roomIn P S v on side (w .trace) in
       let x = roomIn P S v on (other side) (w .trace) in
       let enough : cost (partyIn w side .step) k x ≤ ticksBy counted ms w + 0 = omega (arith, long, cost-le (partyIn w side .step) k x, room-is r P S on v fresh side hs (typed .0)) in
-      let start : Stint P S v on side notes (ticksBy counted ms w + 0) w = record { quiet = still-duty (other side) (partyIn w (other side) .step) (a .1 .0); calls = in-call (partyIn w side .step) (a .1 .1 .0); left = enough; same = refl } in
+      let start : Stint P S v on side notes (ticksBy counted ms w + 0) w = record { quiet = quiet-duty (other side) (partyIn w (other side) .step) (a .1 .0); calls = in-call (partyIn w side .step) (a .1 .1 .0); left = enough; same = refl } in
       let end = going-run P S v on (power-fits r P S on v fresh) (slot-fits r P S on v fresh) counted count side Keeps goes awake ms w (typed .1) (a .1 .1 .1) (real-reached r P S on v fresh hs (typed .0)) y notes 0 start in
-      let last = subst (Stint P S v on side notes 0) (sym (run-parts hs ms (begin (created r P S on v)))) end in
+      let last = subst (Stint P S v on side notes 0) (sym (run-parts hs ms (opened (created r P S on v)))) end in
       (room-is r P S on v fresh side (hs ++ ms) (a .0) ∙ cost-none _ _ _ (last .left), last .same)
 
   -- document 01's turns: nothing is asked of wakes and bells
@@ -217,9 +217,9 @@ module _ (r : List ℕ) (P S : ℕ) (on : Bool) (v : ℕ) (fresh : Fresh r P S o
   -- and those asleep with them
   pub bounded : (side : Side) → Bounded r P S on v side
   bounded side hs ms a =
-      let typed = typed-parts hs ms (a .0 .0) in
-      let fair = fair-parts side hs ms (begin (created r P S on v)) (a .0 .1 .0) in
+      let typed = typed-parts hs ms (a .0 .0 .0) in
+      let fair = fair-parts side hs ms (opened (created r P S on v)) (a .0 .1) in
       bounded-by calling by-calling side (λ ms w. AllFair side ms w × Ready P S v on side w)
       (λ h hs w t real y. (y .0 .1, ready-happens P S v on (power-fits r P S on v fresh) (slot-fits r P S on v fresh) side h w t (y .0 .0) real (y .1)))
       (λ hs w y q e l z. dozes P S v on (rings (other side) on) side (other side) w q z (y .1) (has-cause (roomIn P S v on side (w .trace)) (stopAt side (leAt 4 (w .region) flagsAt)) l))
-      hs ms (a .0 .0, a .0 .1 .1) (fair .1, ready-reached r P S on v fresh side hs (typed .0) (fair .0)) (a .1)
+      hs ms (a .0 .0) (fair .1, ready-reached r P S on v fresh side hs (typed .0) (fair .0)) (a .1)

@@ -11,7 +11,7 @@ use Rattle.types.specs.declared.Step.the-variants.{Rest}
 use Rattle.layout.specs.Limits.{payloadCapacity}
 use Rattle.layout.specs.Create.{created}
 use Rattle.rules.specs.Calls.{sound, ready, pushSpec, popSpec, closeSpec, shutSpec}
-use Rattle.rules.specs.Run.{begin}
+use Rattle.rules.specs.Run.{opened}
 use Rattle.rules.specs.Claims.{PushBegins, PopBegins, CloseBegins, ShutBegins, Fresh, reached, Sound}
 use Rattle.rules.proofs.RealRun.{power-fits, slot-fits, real-reached}
 use Rattle.rules.proofs.Sized.{sized-run, sized-start, sound-here}
@@ -40,4 +40,4 @@ module _ (r : List ℕ) (P S : ℕ) (on : Bool) (v : ℕ) (fresh : Fresh r P S o
   pub always-sound : (side : Side) → Sound r P S on v side
   always-sound side hs t here =
       sound-here P S v on (power-fits r P S on v fresh) (slot-fits r P S on v fresh) (reached r P S on v hs) (real-reached r P S on v fresh hs t)
-      (sized-run hs (begin (created r P S on v)) (sized-start (created r P S on v))) side here
+      (sized-run hs (opened (created r P S on v)) (sized-start (created r P S on v))) side here

@@ -17,7 +17,7 @@ use Rattle.types.specs.declared.Step.the-variants.{Rest, Look, Copy, Publish, C
 use Rattle.types.specs.declared.SlotHead.{SlotHead}
 use Rattle.types.specs.declared.Own.{Own}
 use Rattle.types.specs.declared.Fit.{Fit}
-use Rattle.types.specs.declared.Fit.the-variants.{Bad, Small, Good}
+use Rattle.types.specs.declared.Fit.the-variants.{Bad, Small, Fits}
 use Rattle.types.specs.declared.Access.the-variants.{WriteSlot, ReadSlot}
 use Rattle.layout.specs.Limits.{slotHeadBytes, powerOk, slotOk, payloadCapacity}
 use Rattle.layout.specs.Slots.{slotAt, headOf, bufferPut}
@@ -57,11 +57,11 @@ is-copy (ShutRaiseNf q n) = inr (λ e. let z : _≡_ {A = ℕ} 0 1 = cc in omega
 is-copy (ShutWakeNf q n) = inr (λ e. let z : _≡_ {A = ℕ} 0 1 = cc in omega arith)
 
 -- a fit that is good
-pub fit-good : (n most named : ℕ) → fitOf n most named ≡ Good → (n ≤ most) × (n ≤ named)
+pub fit-good : (n most named : ℕ) → fitOf n most named ≡ Fits → (n ≤ most) × (n ≤ named)
 unfolding fitOf
 fit-good n most named e = by (ltb most n) (ltb named n) refl refl e
   where
-    by : (a b : Bool) → ltb most n ≡ a → ltb named n ≡ b → pick a Bad (pick b Small Good) ≡ Good → (n ≤ most) × (n ≤ named)
+    by : (a b : Bool) → ltb most n ≡ a → ltb named n ≡ b → pick a Bad (pick b Small Fits) ≡ Fits → (n ≤ most) × (n ≤ named)
     by true b p q e = absurd (let z : _≡_ {A = ℕ} 0 1 = cc in omega arith)
     by false true p q e = absurd (let z : _≡_ {A = ℕ} 0 1 = cc in omega arith)
     by false false p q e = (ltb-false most n p, ltb-false named n q)
@@ -92,11 +92,11 @@ module _ (P S v : ℕ) (on : Bool) (power-ok : powerOk P ≡ true) (slot-ok : sl
       }
 
   -- C2
-  module _ (own : Own) (c : ℕ) (o : own ≡ sizes P S v on Recorder) (e : c ≡ plus 64 v (length (t .got))) (n : Note) (holds : HoldsAt P S v on r (length (t .got)) n) where
+  module _ (own : Own) (c : ℕ) (o : own ≡ sizes P S v on Recorder) (e : c ≡ plus 64 v (length (t .delivered))) (n : Note) (holds : HoldsAt P S v on r (length (t .delivered)) n) where
     abbrev slot : List ℕ
     slot = slotOf r own c
 
-    slot-is : slot ≡ slotOf r (sizes P S v on Sender) (plus 64 v (length (t .got)))
+    slot-is : slot ≡ slotOf r (sizes P S v on Sender) (plus 64 v (length (t .delivered)))
     slot-is = rw (o, e)
 
     pub head-is : headOf slot ≡ record { length = length (n .body); tag = n .tag }
@@ -114,19 +114,19 @@ module _ (P S v : ℕ) (on : Bool) (power-ok : powerOk P ≡ true) (slot-ok : sl
     tag-is = ap (λ (h : SlotHead). headTag (headWord h)) head-is ∙ head-tag (record { length = length (n .body); tag = n .tag }) (short (length (n .body)) (holds .body-fits)) (holds .tag-small)
 
     -- what a copy that fits leaves in the buffer
-    filled : (named : ℕ) (lent : List ℕ) → fitOf (length (n .body)) (payloadCapacity (own .slot)) named ≡ Good → bufferOf r own (ReadSlot c) named lent ≡ n .body ++ drop (length (n .body)) lent
+    filled : (named : ℕ) (lent : List ℕ) → fitOf (length (n .body)) (payloadCapacity (own .slot)) named ≡ Fits → bufferOf r own (ReadSlot c) named lent ≡ n .body ++ drop (length (n .body)) lent
     unfolding bufferOf bufferPut
     filled named lent g =
         let h : headOf slot .length ≡ length (n .body) = ap (λ (x : SlotHead). x .length) head-is in
         rw (h, g, slot-is, holds .payload)
 
     -- the next step and the hand, by how it fits
-    pub copy-read : (named : ℕ) (lent : List ℕ) → length lent ≡ named → (f : Fit) → fitOf (headLength word) (payloadCapacity (own .slot)) named ≡ f → nth (t .sent) (length (t .got)) ≡ n
+    pub copy-read : (named : ℕ) (lent : List ℕ) → length lent ≡ named → (f : Fit) → fitOf (headLength word) (payloadCapacity (own .slot)) named ≡ f → nth (t .sent) (length (t .delivered)) ≡ n
         → (r′ : List ℕ) → InHand P S v on Recorder (phase (stepAfter (fitMove f (headLength word) (headTag word)) Copy)) r′ (buffered (bufferOf r own (ReadSlot c) named lent) t)
     copy-read named lent long Bad g first r′ = tt
     copy-read named lent long Small g first r′ = tt
-    copy-read named lent long Good g first r′ =
-        let k : fitOf (length (n .body)) (payloadCapacity (own .slot)) named ≡ Good = rw length-is at g in
+    copy-read named lent long Fits g first r′ =
+        let k : fitOf (length (n .body)) (payloadCapacity (own .slot)) named ≡ Fits = rw length-is at g in
         let s = fit-good (length (n .body)) (payloadCapacity (own .slot)) named k in
         rw (length-is, tag-is, filled named lent k)
         (rw length-append (omega arith), first ∙ ap (λ (b : List ℕ). record { tag = n .tag; body = b }) (sym (take-at (n .body) (drop (length (n .body)) lent) (length (n .body)) refl)))

@@ -25,12 +25,12 @@ use Rattle.rules.specs.Steps.{publishMove, checkMove, wakeMove}
 use Rattle.rules.specs.Take.{moveAt, moveOf, answerOf, takeSpec}
 use Rattle.rules.specs.Next.{nextAt, nextSpec}
 use Rattle.rules.specs.Access.{valueOf, bufferOf}
-use Rattle.rules.specs.Turn.{errorOf, runSpec}
+use Rattle.rules.specs.Turn.{errorOf, actSpec}
 use Rattle.rules.specs.Bench.{settled, played, playedLeaves}
 use Rattle.rules.specs.Run.{Note, Trace, World, plays, partyIn, carried, traced, happens}
 use Rattle.rules.specs.Claims.{turnOf, Delivering, publishes, checks, wakes, Carries, Fresh, reached, DoneCarries, GetsAll}
 use Rattle.rules.specs.Phase.{phase}
-use Rattle.rules.proofs.Left.{turn-is}
+use Rattle.rules.proofs.Leaving.{turn-is}
 use Rattle.rules.proofs.Taken.{turnWorld}
 use Rattle.rules.proofs.RealTurn.{turn-is-after}
 use Rattle.rules.proofs.RealRun.{power-fits, slot-fits, real-reached, in-order}
@@ -63,7 +63,7 @@ module _ (x y : ℕ) where
 module _ (P S v : ℕ) (on : Bool) (r : List ℕ) (p : Party) (payload buffer : List ℕ) (t : Trace) where
   carries : (s : Step) → Delivering s → p .step ≡ s → InHand P S v on Recorder (phase s) r t → Carries (carried s .length) (carried s .tag) (traced (nextAt s Recorder (p .counter)) p payload buffer t)
   carries s (publishes {l = l} {t = g}) e h =
-      rw e (t .got, (record { tag = g; body = take l (t .buffer) }, (refl, (refl, (length-take-le l (t .buffer) (h .0), refl)))))
+      rw e (t .delivered, (record { tag = g; body = take l (t .buffer) }, (refl, (refl, (length-take-le l (t .buffer) (h .0), refl)))))
   carries s (checks {l = l} {t = g}) e h = (h .1 .0, (record { tag = g; body = take l (t .buffer) }, (h .1 .1, (refl, (length-take-le l (t .buffer) (h .0), refl)))))
   carries s (wakes {l = l} {t = g}) e h = (h .1 .0, (record { tag = g; body = take l (t .buffer) }, (h .1 .1, (refl, (length-take-le l (t .buffer) (h .0), refl)))))
 
@@ -74,7 +74,7 @@ turn-happens payload lent (Error e) w = refl
 
 module _ (r : List ℕ) (P S : ℕ) (on : Bool) (v : ℕ) (fresh : Fresh r P S on v) where
   pub done-carries : DoneCarries r P S on v
-  unfolding runSpec takeSpec moveOf
+  unfolding actSpec takeSpec moveOf
   done-carries hs typed payload lent fault l t g d e =
       let w = reached r P S on v hs in
       let p = partyIn w Recorder in
@@ -101,4 +101,4 @@ module _ (r : List ℕ) (P S : ℕ) (on : Bool) (v : ℕ) (fresh : Fresh r P S o
       let u = reached r P S on v (hs ++ ms) in
       let o = in-order r P S on v fresh (hs ++ ms) t in
       let e : o .1 .0 ≡ [] = empty-list (o .1 .0) (o .1 .2 ∙ b .0) in
-      sym (o .1 .1 ∙ ap (λ (x : List Note). u .trace .got ++ x) e ∙ append-nil (u .trace .got)) ∙ b .1
+      sym (o .1 .1 ∙ ap (λ (x : List Note). u .trace .delivered ++ x) e ∙ append-nil (u .trace .delivered)) ∙ b .1

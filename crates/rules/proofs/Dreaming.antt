@@ -19,11 +19,11 @@ use Rattle.rules.specs.Sides.{other}
 use Rattle.rules.specs.Take.{stanceOf, stepAfter, counterAfter, closedAfter, moveAt, moveOf, answerOf, takeSpec}
 use Rattle.rules.specs.Next.{nextAt, nextSpec}
 use Rattle.rules.specs.Access.{valueOf, leavesOf, bufferOf}
-use Rattle.rules.specs.Turn.{errorOf, wokeOf, runSpec, turnSpec}
+use Rattle.rules.specs.Turn.{errorOf, wokeOf, actSpec, turnSpec}
 use Rattle.rules.specs.Bench.{seat, wakened, settled, played, playedLeaves}
 use Rattle.rules.specs.Run.{World, plays, partyIn, takes, traced, happens}
 use Rattle.rules.specs.Claims.{turnOf, reached, Dreams}
-use Rattle.rules.proofs.Left.{turn-is}
+use Rattle.rules.proofs.Leaving.{turn-is}
 use Rattle.rules.proofs.Taken.{turnWorld, reseated, turn-refused, turn-taken}
 use Rattle.rules.proofs.Seats.{moved}
 
@@ -88,7 +88,7 @@ module _ (w : World) (side : Side) (payload lent : List ℕ) (fault : Fault) (e 
   turn-happens (Error n) q = refl
 
   answers-nothing : takes w side payload lent fault ≡ true → turnSpec side (w .region) sleeper payload lent fault .answer ≡ Nothing
-  unfolding runSpec takeSpec moveOf
+  unfolding actSpec takeSpec moveOf
   answers-nothing g =
       ap (λ (x : Turned). x .answer) (turn-is side (w .region) sleeper payload lent fault g)
       ∙ ap (λ (u : Step). answerOf (moveAt u (sleeper .own) (sleeper .counter) (sleeper .blocking) (sleeper .length) (valueOf (w .region) (sleeper .own) (nextSpec sleeper)) (errorOf fault))) e

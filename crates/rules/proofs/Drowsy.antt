@@ -22,9 +22,9 @@ use Rattle.rules.specs.Take.{stanceOf, stepAfter, moveAt, moveOf}
 use Rattle.rules.specs.Next.{nextAt, nextSpec}
 use Rattle.rules.specs.Access.{valueOf, bufferOf}
 use Rattle.rules.specs.Bench.{settled, played, playedLeaves}
-use Rattle.rules.specs.Run.{World, Happening, attaches, plays, partyIn, takes, happens, run, begin}
+use Rattle.rules.specs.Run.{World, Happening, attaches, plays, partyIn, takes, happens, run, opened}
 use Rattle.rules.specs.Stretch.{moves, countsBy, ticks, inWait, Turns}
-use Rattle.rules.specs.Claims.{Fresh, reached, Sleeps}
+use Rattle.rules.specs.Claims.{Fresh, reached, FallsAsleep}
 use Rattle.rules.proofs.After.{bell-after}
 use Rattle.rules.proofs.Kept.{header-in}
 use Rattle.rules.proofs.Leads.{stopAt, Leads}
@@ -39,7 +39,7 @@ use Rattle.rules.proofs.Causes.{room-is}
 use Rattle.rules.proofs.Bound.{Kind, rests, dreams as asleep, acts, kind, own-room-none}
 use Rattle.rules.proofs.Asks.{run-parts}
 use Rattle.rules.proofs.Real.{roomIn, Real}
-use Rattle.rules.proofs.Sleeps.{drowse, nap-step, nine, slept, toSleep, wait-bell, wait-stores-none}
+use Rattle.rules.proofs.UntilSleep.{drowse, nap-step, nine, slept, toSleep, wait-bell, wait-stores-none}
 
 module _ (P S v : ℕ) (on : Bool) (power-ok : powerOk P ≡ true) (slot-ok : slotOk S ≡ true) where
   abbrev bell : Side → World → ℕ
@@ -174,7 +174,7 @@ clear-flags : (a b : Bool) → a ≡ false → b ≡ false → (a || b) ≡ fals
 clear-flags a b h g = rw (h, g)
 
 module _ (r : List ℕ) (P S : ℕ) (on : Bool) (v : ℕ) (fresh : Fresh r P S on v) where
-  pub sleeps : (side : Side) → Sleeps r P S on v side
+  pub sleeps : (side : Side) → FallsAsleep r P S on v side
   sleeps side hs ms t none up other-up mode waits turns long =
       let w = reached r P S on v hs in
       let b = leAt 4 (w .region) (bellAt (sleepBell side)) in
@@ -200,7 +200,7 @@ module _ (r : List ℕ) (P S : ℕ) (on : Bool) (v : ℕ) (fresh : Fresh r P S o
               omega (arith, done .1 .1 .1 .0, nine b s),
               (
                 λ e. omega (arith, done .1 .1 .1 .0, from-look b s e),
-                subst (λ (u : World). partyIn u side .step ≡ Asleep) (sym (run-parts hs (done .0) (begin (created r P S on v)))) (done .1 .1 .1 .1),
+                subst (λ (u : World). partyIn u side .step ≡ Asleep) (sym (run-parts hs (done .0) (opened (created r P S on v)))) (done .1 .1 .1 .1),
               ),
             ),
           ),

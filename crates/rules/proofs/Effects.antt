@@ -103,8 +103,8 @@ module _ (p : Party) (payload buffer : List ℕ) (t : Trace) where
     sent-more : length (t .sent ++ (t .hand ∷ [])) ≡ length (t .sent) + 1
     sent-more = length-more (t .sent) (t .hand)
 
-    got-more : (n : _) → length (t .got ++ (n ∷ [])) ≡ length (t .got) + 1
-    got-more n = length-more (t .got) n
+    got-more : (n : _) → length (t .delivered ++ (n ∷ [])) ≡ length (t .delivered) + 1
+    got-more n = length-more (t .delivered) n
 
     pub room-own-is : (side : Side) (s : Step) → HasRoom (phase s) (roomIn P S v on side t) → roomIn P S v on side (told s side) ≡ ownRoom s (roomIn P S v on side t)
     room-own-is Sender Rest h = refl

@@ -32,7 +32,7 @@ use Rattle.rules.specs.Take.{stanceOf}
 use Rattle.rules.specs.Next.{nextAt}
 use Rattle.rules.specs.Calls.{pushSpec, popSpec, closeSpec, shutSpec, spuriousSpec, timeoutSpec}
 use Rattle.rules.specs.Bench.{settled, played, playedLeaves}
-use Rattle.rules.specs.Run.{World, Happening, attaches, plays, partyIn, takes, happens, run, begin}
+use Rattle.rules.specs.Run.{World, Happening, attaches, plays, partyIn, takes, happens, run, opened}
 use Rattle.rules.specs.Premises.{Typed, AllTyped, AllFair}
 use Rattle.rules.specs.Stretch.{moves, calling, countsBy, tickBy, ticksBy, OwnDoing, AllOwn}
 use Rattle.rules.specs.Claims.{Fresh, reached, Stopped, AtRest, EndsTicks, Ends}
@@ -46,7 +46,7 @@ use Rattle.rules.proofs.Heard.{Cause, none, duty}
 use Rattle.rules.proofs.Costs.{less}
 use Rattle.rules.proofs.Nearer.{toRest, seven, rested, nearer}
 use Rattle.rules.proofs.Listening.{duty-kept, mover-is, waiter-is, flags-left}
-use Rattle.rules.proofs.Fairly.{Ready, ready-happens, still-duty, dozes}
+use Rattle.rules.proofs.Fairly.{Ready, ready-happens, quiet-duty, dozes}
 use Rattle.rules.proofs.Causes.{ready-reached}
 use Rattle.rules.proofs.Bound.{Count, by-moves, by-calling, Kind, rests, dreams, acts, kind, moves-off, dreams-on}
 use Rattle.rules.proofs.Asks.{run-parts, typed-parts, fair-parts}
@@ -230,9 +230,9 @@ module _ (r : List ℕ) (P S : ℕ) (on : Bool) (v : ℕ) (fresh : Fresh r P S o
   ends-by counted count side Keeps goes rouses hs ms t stop own y long =
       let w = reached r P S on v hs in
       let typed = typed-parts hs ms t in
-      let start : Ending P S v on side 7 w = record { quiet = still-duty (other side) (partyIn w (other side) .step) (stop .0); up = stop .1; left = seven (partyIn w side .step) } in
+      let start : Ending P S v on side 7 w = record { quiet = quiet-duty (other side) (partyIn w (other side) .step) (stop .0); up = stop .1; left = seven (partyIn w side .step) } in
       let done = ending-run P S v on (power-fits r P S on v fresh) (slot-fits r P S on v fresh) counted count side Keeps goes rouses ms w (typed .1) own (real-reached r P S on v fresh hs (typed .0)) y 7 start long in
-      (done .0, (done .1 .0, (done .1 .1 .0, (done .1 .1 .1 .0, subst (λ (u : World). partyIn u side .step ≡ Rest) (sym (run-parts hs (done .0) (begin (created r P S on v)))) (done .1 .1 .1 .1)))))
+      (done .0, (done .1 .0, (done .1 .1 .0, (done .1 .1 .1 .0, subst (λ (u : World). partyIn u side .step ≡ Rest) (sym (run-parts hs (done .0) (opened (created r P S on v)))) (done .1 .1 .1 .1)))))
 
   -- document 01's turns: nothing is asked of wakes and bells
   pub ends-ticks : (side : Side) → EndsTicks r P S on v side
@@ -242,7 +242,7 @@ module _ (r : List ℕ) (P S : ℕ) (on : Bool) (v : ℕ) (fresh : Fresh r P S o
   pub ends : (side : Side) → Ends r P S on v side
   ends side hs ms t f stop own long =
       let typed = typed-parts hs ms t in
-      let fair = fair-parts side hs ms (begin (created r P S on v)) f in
+      let fair = fair-parts side hs ms (opened (created r P S on v)) f in
       ends-by calling by-calling side (λ ms w. AllFair side ms w × Ready P S v on side w)
       (λ h hs w t real y. (y .0 .1, ready-happens P S v on (power-fits r P S on v fresh) (slot-fits r P S on v fresh) side h w t (y .0 .0) real (y .1)))
       (λ hs w n y d c e. dozes P S v on (rings (other side) on) side (other side) w (d .quiet) e (y .1) (stop-cause (roomIn P S v on side (w .trace)) _ (d .up)))

@@ -30,7 +30,7 @@ use Rattle.rules.specs.Calls.{pushSpec, popSpec, closeSpec, shutSpec, sp
 use Rattle.rules.specs.Next.{nextSpec}
 use Rattle.rules.specs.Turn.{errorOf, wokeOf}
 use Rattle.rules.specs.Bench.{seat, hears, settled, played, playedLeaves}
-use Rattle.rules.specs.Run.{World, Happening, attaches, plays, partyIn, takes, happens, run, begin, rungOf}
+use Rattle.rules.specs.Run.{World, Happening, attaches, plays, partyIn, takes, happens, run, opened, rungOf}
 use Rattle.rules.specs.Premises.{Typed, AllTyped, Fair, AllFair, FairTurn}
 use Rattle.rules.specs.Phase.{phase}
 use Rattle.rules.proofs.Leads.{stopAt}
@@ -58,9 +58,9 @@ idle-duty side s looks = refl
 idle-duty side s closes = refl
 idle-duty side s shuts = refl
 
-pub still-duty : (side : Side) (s : Step) → (s ≡ Rest) ⊎ (s ≡ Asleep) → duty side s ≡ none
-still-duty side s (inl e) = ap (duty side) e
-still-duty side s (inr e) = ap (duty side) e
+pub quiet-duty : (side : Side) (s : Step) → (s ≡ Rest) ⊎ (s ≡ Asleep) → duty side s ≡ none
+quiet-duty side s (inl e) = ap (duty side) e
+quiet-duty side s (inr e) = ap (duty side) e
 
 idle-tries : (s : Step) (b : Bool) → Idle s → b ≡ false → Tries b (phase s)
 idle-tries s b rests e = rw e tt
@@ -101,7 +101,7 @@ module _ (P S v : ℕ) (on : Bool) where
   called-other w side q (inl e) h y =
       subst (ReadyAt P S v on h (other side) side) (sym (ap (seated P S v on w side) e ∙ ap (λ (b : Bench). record { region = w .region; bench = b; trace = w .trace }) (seat-same side (w .bench)))) y
   called-other w side q (inr b) true y =
-      rw (seat-one side (w .bench) q, seat-two side (w .bench) q, idle-duty side (q .step) (b .idle)) (rw (still-duty side (partyIn w side .step) (b .from)) at y)
+      rw (seat-one side (w .bench) q, seat-two side (w .bench) q, idle-duty side (q .step) (b .idle)) (rw (quiet-duty side (partyIn w side .step) (b .from)) at y)
   called-other w side q (inr b) false y = rw (seat-two side (w .bench) q) y
 
   -- an attach: whoever joins is at rest, and no flag that stops anybody changes
@@ -209,10 +209,10 @@ module _ (P S v : ℕ) (on : Bool) where
     ready-run σ (h ∷ hs) w t f real y =
         ready-run σ hs (happens h w) (t .1) (f .1) (real-happens P S v on power-ok slot-ok h w (t .0) real) (ready-happens σ h w (t .0) (f .0) real y)
 
-  pub ready-start : (σ : Side) (region : List ℕ) → Ready σ (begin region)
+  pub ready-start : (σ : Side) (region : List ℕ) → Ready σ (opened region)
   ready-start Sender region = by (rings Recorder on)
     where
-      by : (h : Bool) → ReadyAt P S v on h Sender Recorder (begin region)
+      by : (h : Bool) → ReadyAt P S v on h Sender Recorder (opened region)
       by true = tt
       by false = tt
   ready-start Recorder region = tt

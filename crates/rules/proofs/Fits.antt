@@ -11,7 +11,7 @@ use Rattle.words.specs.Wrap.{plus}
 use Rattle.types.specs.declared.Side.{Side}
 use Rattle.types.specs.declared.Side.the-variants.{Sender, Recorder}
 use Rattle.types.specs.declared.Own.{Own}
-use Rattle.types.specs.declared.Fit.the-variants.{Good}
+use Rattle.types.specs.declared.Fit.the-variants.{Fits}
 use Rattle.types.specs.declared.Step.the-variants.{Rest, Copy}
 use Rattle.layout.specs.Limits.{powerOk, slotOk, payloadCapacity}
 use Rattle.rules.specs.Looks.{headLength, headTag, fitOf}
@@ -24,7 +24,7 @@ use Rattle.rules.specs.Stretch.{Big}
 use Rattle.rules.proofs.Copies.{length-is}
 use Rattle.rules.proofs.Real.{countOf, sizes, roomIn, nth, blank, Real}
 
-fit-is : (n most named : ℕ) → n ≤ most → n ≤ named → fitOf n most named ≡ Good
+fit-is : (n most named : ℕ) → n ≤ most → n ≤ named → fitOf n most named ≡ Fits
 unfolding fitOf
 fit-is n most named h g = rw (le-ltb most n h, le-ltb named n g)
 
@@ -39,18 +39,18 @@ module _ (P S v : ℕ) (on : Bool) (power-ok : powerOk P ≡ true) (slot-ok : sl
   t = w .trace
 
   -- the note that a pop comes to is the first that waits
-  first-waits : 0 < roomIn P S v on Recorder t → t .sent ≡ t .got ++ (nth (t .sent) (length (t .got)) ∷ drop (suc (length (t .got))) (t .sent))
+  first-waits : 0 < roomIn P S v on Recorder t → t .sent ≡ t .delivered ++ (nth (t .sent) (length (t .delivered)) ∷ drop (suc (length (t .delivered))) (t .sent))
   first-waits h =
-      sym (take-append-drop (length (t .got)) (t .sent))
-      ∙ ap (λ (x : List Note). x ++ drop (length (t .got)) (t .sent)) (sym (real .queue .order))
-      ∙ ap (λ (x : List Note). t .got ++ x) (drop-cons (t .sent) (length (t .got)) blank (omega arith))
+      sym (take-append-drop (length (t .delivered)) (t .sent))
+      ∙ ap (λ (x : List Note). x ++ drop (length (t .delivered)) (t .sent)) (sym (real .queue .order))
+      ∙ ap (λ (x : List Note). t .delivered ++ x) (drop-cons (t .sent) (length (t .delivered)) blank (omega arith))
 
-  good-fit : (own : Own) (c named : ℕ) → own ≡ sizes P S v on Recorder → c ≡ plus 64 v (length (t .got)) → 0 < roomIn P S v on Recorder t
-      → ((n : Note) (rest : List Note) → t .sent ≡ t .got ++ (n ∷ rest) → length (n .body) ≤ named)
-      → fitOf (headLength (valueOf (w .region) own (slotAccess Recorder c))) (payloadCapacity (own .slot)) named ≡ Good
+  good-fit : (own : Own) (c named : ℕ) → own ≡ sizes P S v on Recorder → c ≡ plus 64 v (length (t .delivered)) → 0 < roomIn P S v on Recorder t
+      → ((n : Note) (rest : List Note) → t .sent ≡ t .delivered ++ (n ∷ rest) → length (n .body) ≤ named)
+      → fitOf (headLength (valueOf (w .region) own (slotAccess Recorder c))) (payloadCapacity (own .slot)) named ≡ Fits
   good-fit own c named o e h big =
-      let n : Note = nth (t .sent) (length (t .got)) in
-      let holds = real .queue .ring (length (t .got)) (omega arith) (omega arith) in
+      let n : Note = nth (t .sent) (length (t .delivered)) in
+      let holds = real .queue .ring (length (t .delivered)) (omega arith) (omega arith) in
       rw (length-is P S v on power-ok slot-ok (w .region) (real .fixed) t own c o e n holds, o)
       (fit-is (length (n .body)) (payloadCapacity S) named (holds .body-fits) (big n _ (first-waits h)))
 

@@ -65,7 +65,7 @@ module _ (P S v : ℕ) (on : Bool) (power-ok : powerOk P ≡ true) (slot-ok : sl
   abbrev pub Fits : Side → Step → Type 0
   Fits side s = side ≡ Sender → s ≡ Copy → slotHeadBytes + length payload ≤ S
 
-  sender-room : 0 < roomIn P S v on Sender t → length (t .sent) < length (t .got) + capacity P
+  sender-room : 0 < roomIn P S v on Sender t → length (t .sent) < length (t .delivered) + capacity P
   sender-room h = omega (arith, queue .below)
 
   pub queue-kept : (side : Side) (s : Step) (a : Access) → p .step ≡ s → p .own ≡ sizes P S v on side → p .counter ≡ plus 64 v (countOf side t) → Does side (p .counter) s a
@@ -104,7 +104,7 @@ module _ (P S v : ℕ) (on : Bool) (power-ok : powerOk P ≡ true) (slot-ok : sl
   other-room Sender s a (takes q) = omega arith
   other-room Recorder s a (takes q) = omega arith
   other-room Sender s a store = omega (arith, length-more (t .sent) (t .hand))
-  other-room Recorder s a store = rw (length-more (t .got) (record { tag = carried (p .step) .tag; body = take (carried (p .step) .length) (t .buffer) })) (omega arith)
+  other-room Recorder s a store = rw (length-more (t .delivered) (record { tag = carried (p .step) .tag; body = take (carried (p .step) .length) (t .buffer) })) (omega arith)
   other-room Sender s a (ring q NotEmpty) = omega arith
   other-room Sender s a (ring q NotFull) = omega arith
   other-room Recorder s a (ring q NotEmpty) = omega arith
@@ -160,7 +160,7 @@ module _ (P S v : ℕ) (on : Bool) (power-ok : powerOk P ≡ true) (slot-ok : sl
   told-hand : (side : Side) (l g : ℕ) → p .step ≡ Publish l g → InHand P S v on side (publishing l g) r t
       → InHand P S v on side (telling l g) (left (StoreCounter side (next 64 (p .counter)))) (told (StoreCounter side (next 64 (p .counter))))
   told-hand Sender l g at y = tt
-  told-hand Recorder l g at y = (y .0, (t .got, ap (λ (c : SlotHead). t .got ++ (record { tag = c .tag; body = take (c .length) (t .buffer) } ∷ [])) (ap carried at)))
+  told-hand Recorder l g at y = (y .0, (t .delivered, ap (λ (c : SlotHead). t .delivered ++ (record { tag = c .tag; body = take (c .length) (t .buffer) } ∷ [])) (ap carried at)))
 
   still-hand : (side : Side) (l g : ℕ) (r′ : List ℕ) → InHand P S v on side (telling l g) r t → InHand P S v on side (telling l g) r′ t
   still-hand Sender l g r′ y = tt
@@ -208,23 +208,23 @@ module _ (P S v : ℕ) (on : Bool) (power-ok : powerOk P ≡ true) (slot-ok : sl
   -- a sender's turn touches no buffer and takes no note away
   pub record SenderKeeps (u : Trace) : Type 0 where
     pub lent : u .buffer ≡ t .buffer
-    pub got : u .got ≡ t .got
+    pub delivered : u .delivered ≡ t .delivered
     pub sent : (i : ℕ) → i < length (t .sent) → nth (u .sent) i ≡ nth (t .sent) i
 
   sender-keeps : (s : Step) (a : Access) → Does Sender (p .counter) s a → SenderKeeps (told a)
-  sender-keeps s a (nothing q) = record { lent = refl; got = refl; sent = λ i h. refl }
-  sender-keeps s a (looks q) = record { lent = refl; got = refl; sent = λ i h. refl }
-  sender-keeps s a (flags q) = record { lent = refl; got = refl; sent = λ i h. refl }
-  sender-keeps s a epoch = record { lent = refl; got = refl; sent = λ i h. refl }
-  sender-keeps s a (writes q) = record { lent = refl; got = refl; sent = λ i h. refl }
+  sender-keeps s a (nothing q) = record { lent = refl; delivered = refl; sent = λ i h. refl }
+  sender-keeps s a (looks q) = record { lent = refl; delivered = refl; sent = λ i h. refl }
+  sender-keeps s a (flags q) = record { lent = refl; delivered = refl; sent = λ i h. refl }
+  sender-keeps s a epoch = record { lent = refl; delivered = refl; sent = λ i h. refl }
+  sender-keeps s a (writes q) = record { lent = refl; delivered = refl; sent = λ i h. refl }
   sender-keeps s a (takes q) = absurd (let z : _≡_ {A = ℕ} 0 1 = cc in omega arith)
-  sender-keeps s a store = record { lent = refl; got = refl; sent = λ i h. List·getD-append (t .sent) (t .hand ∷ []) blank i h }
-  sender-keeps s a (ring q NotEmpty) = record { lent = refl; got = refl; sent = λ i h. refl }
-  sender-keeps s a (ring q NotFull) = record { lent = refl; got = refl; sent = λ i h. refl }
-  sender-keeps s a close = record { lent = refl; got = refl; sent = λ i h. refl }
-  sender-keeps s a shut = record { lent = refl; got = refl; sent = λ i h. refl }
-  sender-keeps s a wait = record { lent = refl; got = refl; sent = λ i h. refl }
-  sender-keeps s a (wake q b m) = record { lent = refl; got = refl; sent = λ i h. refl }
+  sender-keeps s a store = record { lent = refl; delivered = refl; sent = λ i h. List·getD-append (t .sent) (t .hand ∷ []) blank i h }
+  sender-keeps s a (ring q NotEmpty) = record { lent = refl; delivered = refl; sent = λ i h. refl }
+  sender-keeps s a (ring q NotFull) = record { lent = refl; delivered = refl; sent = λ i h. refl }
+  sender-keeps s a close = record { lent = refl; delivered = refl; sent = λ i h. refl }
+  sender-keeps s a shut = record { lent = refl; delivered = refl; sent = λ i h. refl }
+  sender-keeps s a wait = record { lent = refl; delivered = refl; sent = λ i h. refl }
+  sender-keeps s a (wake q b m) = record { lent = refl; delivered = refl; sent = λ i h. refl }
 
   -- a recorder's turn sends nothing and writes no slot
   record RecorderKeeps (a : Access) : Type 0 where
@@ -251,8 +251,8 @@ module _ (P S v : ℕ) (on : Bool) (power-ok : powerOk P ≡ true) (slot-ok : sl
   recorder-hand u k resting h y r′ = tt
   recorder-hand u k looking h y r′ = tt
   recorder-hand u k copying h y r′ = tt
-  recorder-hand u k (publishing l g) h y r′ = rw (k .lent, k .got) (y .0, k .sent (length (t .got)) (omega arith) ∙ y .1)
-  recorder-hand u k (telling l g) h y r′ = rw (k .lent, k .got) y
+  recorder-hand u k (publishing l g) h y r′ = rw (k .lent, k .delivered) (y .0, k .sent (length (t .delivered)) (omega arith) ∙ y .1)
+  recorder-hand u k (telling l g) h y r′ = rw (k .lent, k .delivered) y
   recorder-hand u k asking h y r′ = tt
   recorder-hand u k (armed e) h y r′ = tt
   recorder-hand u k (poised e) h y r′ = tt

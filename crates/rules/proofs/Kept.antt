@@ -170,7 +170,7 @@ module _ (P S v : ℕ) (on : Bool) (r : List ℕ) (p : Party) (payload : List �
     counts-own Sender s a (takes q) = refl
     counts-own Recorder s a (takes q) = refl
     counts-own Sender s a stores = plus-plus 64 v (length (t .sent)) 1 ∙ ap (plus 64 v) (sym (length-more (t .sent) (t .hand)))
-    counts-own Recorder s a stores = plus-plus 64 v (length (t .got)) 1 ∙ ap (plus 64 v) (sym (length-more (t .got) _))
+    counts-own Recorder s a stores = plus-plus 64 v (length (t .delivered)) 1 ∙ ap (plus 64 v) (sym (length-more (t .delivered) _))
     counts-own Sender s a (raises q NotEmpty) = q .counter _
     counts-own Sender s a (raises q NotFull) = q .counter _
     counts-own Recorder s a (raises q NotEmpty) = q .counter _

@@ -14,9 +14,9 @@ use Rattle.types.specs.declared.Mark.the-variants.{Shutdown}
 use Rattle.types.specs.declared.Door.{Door}
 use Rattle.types.specs.declared.Door.the-variants.{Shut, Left, Open}
 use Rattle.types.specs.declared.Fit.{Fit}
-use Rattle.types.specs.declared.Fit.the-variants.{Bad, Small, Good}
+use Rattle.types.specs.declared.Fit.the-variants.{Bad, Small, Fits}
 use Rattle.types.specs.declared.Nap.{Nap}
-use Rattle.types.specs.declared.Nap.the-variants.{Sleeps, Returns, Late, Fails}
+use Rattle.types.specs.declared.Nap.the-variants.{Sleeps, Returns, TimedOut, Fails}
 use Rattle.types.specs.declared.Step.{Step}
 use Rattle.types.specs.declared.Step.the-variants.{Rest, Look, Copy, Publish, Check, Raise, Wake, Gate, Epoch, Again, GateAgain, Wait, Asleep, CloseSet, CloseRaise, CloseWake, ShutSet, ShutRaiseNe, ShutWakeNe, ShutRaiseNf, ShutWakeNf}
 use Rattle.types.specs.declared.Answer.the-variants.{Done}
@@ -25,7 +25,7 @@ use Rattle.layout.specs.Limits.{capacity, payloadCapacity}
 use Rattle.layout.specs.Flags.{worth, bitOn, closeMark}
 use Rattle.rules.specs.Sides.{other, rings, sleepBell, waitOp}
 use Rattle.rules.specs.Looks.{roomOf, wasBlocked, doorOf, headLength, headTag, fitOf, napOf}
-use Rattle.rules.specs.Steps.{roomMove, stuckMove, lookMove, fitMove, copyWith, copyMove, publishMove, checkMove, wakeMove, doorMove, gateMove, againMove, napMove, waitMove, closeMove, shutMove}
+use Rattle.rules.specs.Steps.{roomMove, blockedMove, lookMove, fitMove, copyWith, copyMove, publishMove, checkMove, wakeMove, doorMove, gateMove, againMove, napMove, waitMove, closeMove, shutMove}
 use Rattle.rules.specs.Take.{moveAt, stepAfter}
 use Rattle.rules.proofs.Rooms.{asRoom}
 
@@ -71,7 +71,7 @@ module _ (k x : ℕ) (z m r : Bool) (b : ℕ) where
   abbrev L : Step → Step → Type 0
   L s t = Leads k x z m r b s t
 
-  look-leads : (side : Side) (j : ℕ) → k ≡ j → (n : Bool) → m ≡ n → L Look (stepAfter (roomMove (asRoom j) (stuckMove n side)) Look)
+  look-leads : (side : Side) (j : ℕ) → k ≡ j → (n : Bool) → m ≡ n → L Look (stepAfter (roomMove (asRoom j) (blockedMove n side)) Look)
   look-leads side (suc j) q n h = finds (omega arith)
   look-leads side zero q true h = blocks q h
   look-leads side zero q false h = gives-up q h
@@ -84,7 +84,7 @@ module _ (k x : ℕ) (z m r : Bool) (b : ℕ) where
   copy-leads Sender f l t = copies
   copy-leads Recorder Bad l t = spills
   copy-leads Recorder Small l t = spills
-  copy-leads Recorder Good l t = copies
+  copy-leads Recorder Fits l t = copies
 
   publish-leads : (l t : ℕ) (n : Bool) → r ≡ n → L (Publish l t) (stepAfter (pick n (To (Check l t)) (End (Done l t))) (Publish l t))
   publish-leads l t true h = tells h
@@ -118,7 +118,7 @@ module _ (k x : ℕ) (z m r : Bool) (b : ℕ) where
   wait-leads : (e op f : ℕ) (n : Nap) → (n ≡ Sleeps → b ≡ e) → L (Wait e) (stepAfter (napMove n op f) (Wait e))
   wait-leads e op f Sleeps h = sleeps (h refl)
   wait-leads e op f Returns h = returns
-  wait-leads e op f Late h = ends
+  wait-leads e op f TimedOut h = ends
   wait-leads e op f Fails h = ends
 
   close-leads : (n : Bool) → r ≡ n → L CloseSet (stepAfter (pick n (To CloseRaise) (End (Done 0 0))) CloseSet)
@@ -130,7 +130,7 @@ nap-sleeps : (f : ℕ) (s : Bool) → napOf f s ≡ Sleeps → s ≡ true
 unfolding napOf
 nap-sleeps f s e = by (eqb f 0) s (eqb f 4 || eqb f 11) (eqb f 110) e
   where
-    by : (a s c d : Bool) → pick a (pick s Sleeps Returns) (pick c Returns (pick d Late Fails)) ≡ Sleeps → s ≡ true
+    by : (a s c d : Bool) → pick a (pick s Sleeps Returns) (pick c Returns (pick d TimedOut Fails)) ≡ Sleeps → s ≡ true
     by true true c d e = refl
     by true false c d e = absurd (let q : _≡_ {A = ℕ} 0 1 = cc in omega arith)
     by false s true d e = absurd (let q : _≡_ {A = ℕ} 0 1 = cc in omega arith)

@@ -1,6 +1,6 @@
 pub mod HeadWords
 pub mod Answered
-pub mod Left
+pub mod Leaving
 pub mod Refusals
 pub mod Frames
 pub mod Real
@@ -34,7 +34,7 @@ pub mod Asks
 pub mod Ending
 pub mod Delivers
 pub mod Sized
-pub mod Sleeps
+pub mod UntilSleep
 pub mod Drowsy
 pub mod Dreaming
 pub mod Begins

@@ -24,7 +24,7 @@ use Rattle.rules.specs.Run.{Note, Trace, World, rungOf, partyIn}
 -- how many notes a side has published
 abbrev pub countOf : Side → Trace → ℕ
 countOf Sender t = length (t .sent)
-countOf Recorder t = length (t .got)
+countOf Recorder t = length (t .delivered)
 
 -- one at a copy or a store has room
 abbrev pub HasRoom : Phase → ℕ → Type 0
@@ -98,8 +98,8 @@ module _ (P S v : ℕ) (on : Bool) where
 
   -- free slots for the sender, waiting notes for the recorder
   abbrev pub roomIn : Side → Trace → ℕ
-  roomIn Sender t = cap - (length (t .sent) - length (t .got))
-  roomIn Recorder t = length (t .sent) - length (t .got)
+  roomIn Sender t = cap - (length (t .sent) - length (t .delivered))
+  roomIn Recorder t = length (t .sent) - length (t .delivered)
 
   -- the slot of the i-th note holds it
   pub record HoldsAt (r : List ℕ) (i : ℕ) (n : Note) : Type 0 where
@@ -124,9 +124,9 @@ module _ (P S v : ℕ) (on : Bool) where
   InHand Recorder resting r t = Unit
   InHand Recorder looking r t = Unit
   InHand Recorder copying r t = Unit
-  InHand Recorder (publishing l g) r t = (l ≤ length (t .buffer)) × (nth (t .sent) (length (t .got)) ≡ record { tag = g; body = take l (t .buffer) })
+  InHand Recorder (publishing l g) r t = (l ≤ length (t .buffer)) × (nth (t .sent) (length (t .delivered)) ≡ record { tag = g; body = take l (t .buffer) })
   InHand Recorder (telling l g) r t =
-      (l ≤ length (t .buffer)) × ((before : List Note) × (t .got ≡ before ++ (record { tag = g; body = take l (t .buffer) } ∷ [])))
+      (l ≤ length (t .buffer)) × ((before : List Note) × (t .delivered ≡ before ++ (record { tag = g; body = take l (t .buffer) } ∷ [])))
   InHand Recorder asking r t = Unit
   InHand Recorder (armed e) r t = Unit
   InHand Recorder (poised e) r t = Unit
@@ -151,10 +151,10 @@ module _ (P S v : ℕ) (on : Bool) where
 
   -- the notes: counts within the capacity of one another, delivered in order, and the waiting ones in their slots
   pub record Queue (r : List ℕ) (t : Trace) : Type 0 where
-    pub below : length (t .got) ≤ length (t .sent)
-    pub above : length (t .sent) ≤ length (t .got) + cap
-    pub order : t .got ≡ take (length (t .got)) (t .sent)
-    pub ring : (i : ℕ) → length (t .got) ≤ i → i < length (t .sent) → HoldsAt r i (nth (t .sent) i)
+    pub below : length (t .delivered) ≤ length (t .sent)
+    pub above : length (t .sent) ≤ length (t .delivered) + cap
+    pub order : t .delivered ≡ take (length (t .delivered)) (t .sent)
+    pub ring : (i : ℕ) → length (t .delivered) ≤ i → i < length (t .sent) → HoldsAt r i (nth (t .sent) i)
 
   -- one side of a world
   pub record Side-good (side : Side) (r : List ℕ) (p : Party) (t : Trace) : Type 0 where

@@ -7,7 +7,7 @@ use native.Mathlib.Omega.{arith}
 use lib.Dec.{T, eqb}
 use lib.ListN.{length}
 use Rattle.words.specs.Le.{leAt, putLe}
-use Rattle.types.specs.Answers.{number, Check, check, firstOf}
+use Rattle.types.specs.Answers.{number, Test, test, firstOf}
 use Rattle.types.specs.declared.Side.{Side}
 use Rattle.types.specs.declared.Side.the-variants.{Sender, Recorder}
 use Rattle.types.specs.declared.Party.{Party}
@@ -33,16 +33,16 @@ use Rattle.rules.proofs.RealCalls.{seat-one, seat-two}
 use Rattle.rules.proofs.Real.{InHand, HoldsAt, nth, Queue, Side-good, Real}
 
 -- the k-th test of a list of checks; where they end in Done, it holds
-abbrev testAt : List Check → ℕ → Bool
+abbrev testAt : List Test → ℕ → Bool
 testAt [] k = true
-testAt (check b a ∷ cs) zero = b
-testAt (check b a ∷ cs) (suc k) = testAt cs k
+testAt (test b a ∷ cs) zero = b
+testAt (test b a ∷ cs) (suc k) = testAt cs k
 
-done-test : (cs : List Check) → T (all-refuse cs) → eqb (number (firstOf cs)) 0 ≡ true → (k : ℕ) → testAt cs k ≡ true
+done-test : (cs : List Test) → T (all-refuse cs) → eqb (number (firstOf cs)) 0 ≡ true → (k : ℕ) → testAt cs k ≡ true
 done-test [] t e k = refl
-done-test (check true a ∷ cs) t e zero = refl
-done-test (check true a ∷ cs) t e (suc k) = done-test cs (others-refuse (refuses a) (all-refuse cs) t) e k
-done-test (check false a ∷ cs) t e k =
+done-test (test true a ∷ cs) t e zero = refl
+done-test (test true a ∷ cs) t e (suc k) = done-test cs (others-refuse (refuses a) (all-refuse cs) t) e k
+done-test (test false a ∷ cs) t e k =
     absurd (let f : eqb (number a) 0 ≡ false = refusal-number a (first-refuses (refuses a) (all-refuse cs) t) in let z : _≡_ {A = ℕ} 0 1 = cc in omega arith)
 
 not-true : (b : Bool) → not b ≡ true → b ≡ false

@@ -23,7 +23,7 @@ use Rattle.layout.proofs.Accepted.{tests, fits, first-small}
 use Rattle.rules.specs.Sides.{sleepBell}
 use Rattle.rules.specs.Calls.{pushSpec, popSpec, closeSpec, shutSpec, spuriousSpec, timeoutSpec}
 use Rattle.rules.specs.Bench.{settled, played, playedLeaves}
-use Rattle.rules.specs.Run.{Note, World, Happening, attaches, plays, partyIn, happens, run, begin}
+use Rattle.rules.specs.Run.{Note, World, Happening, attaches, plays, partyIn, happens, run, opened}
 use Rattle.rules.specs.Premises.{Typed, AllTyped}
 use Rattle.rules.specs.Claims.{waiting, Fresh, reached, InOrder}
 use Rattle.rules.proofs.Rooms.{used-is}
@@ -96,7 +96,7 @@ module _ (r : List ℕ) (P S : ℕ) (on : Bool) (v : ℕ) (fresh : Fresh r P S o
   unfolding created
   bell-starts side = headed-bell r (ringBytes P S) P S (firstFlags on) v made (sleepBell side)
 
-  side-starts : (side : Side) → Side-good P S v on side region (partyIn (begin region) side) (begin region .trace)
+  side-starts : (side : Side) → Side-good P S v on side region (partyIn (opened region) side) (opened region .trace)
   side-starts Sender =
       record {
         word = counter-starts Sender;
@@ -130,7 +130,7 @@ module _ (r : List ℕ) (P S : ℕ) (on : Bool) (v : ℕ) (fresh : Fresh r P S o
         bell-small = rw (bell-starts Recorder) (omega arith);
       }
 
-  pub real-start : Real P S v on (begin region)
+  pub real-start : Real P S v on (opened region)
   unfolding created
   real-start =
       record {
@@ -147,15 +147,15 @@ module _ (r : List ℕ) (P S : ℕ) (on : Bool) (v : ℕ) (fresh : Fresh r P S o
       }
 
   pub real-reached : (hs : List Happening) → AllTyped hs → Real P S v on (reached r P S on v hs)
-  real-reached hs y = real-run P S v on power-fits slot-fits hs (begin region) y real-start
+  real-reached hs y = real-run P S v on power-fits slot-fits hs (opened region) y real-start
 
   -- T1
-  pub waiting-is : (hs : List Happening) → AllTyped hs → waiting (reached r P S on v hs) ≡ length (reached r P S on v hs .trace .sent) - length (reached r P S on v hs .trace .got)
+  pub waiting-is : (hs : List Happening) → AllTyped hs → waiting (reached r P S on v hs) ≡ length (reached r P S on v hs .trace .sent) - length (reached r P S on v hs .trace .delivered)
   waiting-is hs y =
       let real = real-reached hs y in
       let q = real .queue in
       rw (real .sides Sender .word, real .sides Recorder .word)
-      (used-is (capacity P) v (length (reached r P S on v hs .trace .sent)) (length (reached r P S on v hs .trace .got)) (q .below) (q .above) (omega (arith, capacity-room P)))
+      (used-is (capacity P) v (length (reached r P S on v hs .trace .sent)) (length (reached r P S on v hs .trace .delivered)) (q .below) (q .above) (omega (arith, capacity-room P)))
 
   pub in-order : InOrder r P S on v
   in-order hs y =
@@ -166,8 +166,8 @@ module _ (r : List ℕ) (P S : ℕ) (on : Bool) (v : ℕ) (fresh : Fresh r P S o
       let a = q .above in (
         omega arith,
         (
-          drop (length (w .trace .got)) (w .trace .sent),
-          sym (take-append-drop (length (w .trace .got)) (w .trace .sent)) ∙ ap (λ (x : List Note). x ++ drop (length (w .trace .got)) (w .trace .sent)) (sym (q .order)),
-          length-drop (length (w .trace .got)) (w .trace .sent) ∙ sym u,
+          drop (length (w .trace .delivered)) (w .trace .sent),
+          sym (take-append-drop (length (w .trace .delivered)) (w .trace .sent)) ∙ ap (λ (x : List Note). x ++ drop (length (w .trace .delivered)) (w .trace .sent)) (sym (q .order)),
+          length-drop (length (w .trace .delivered)) (w .trace .sent) ∙ sym u,
         ),
       )

@@ -60,12 +60,12 @@ module _ (P S v : ℕ) (on : Bool) (power-ok : powerOk P ≡ true) (slot-ok : sl
     small = omega (arith, capacity-room P)
 
     sees : (side : Side) → roomOf side (capacity P) (plus 64 v (countOf side t)) (plus 64 v (countOf (other side) t)) ≡ asRoom (roomIn P S v on side t)
-    sees Sender = sender-sees (capacity P) v (length (t .sent)) (length (t .got)) (queue .below) (queue .above) small
-    sees Recorder = recorder-sees (capacity P) v (length (t .sent)) (length (t .got)) (queue .below) (queue .above) small
+    sees Sender = sender-sees (capacity P) v (length (t .sent)) (length (t .delivered)) (queue .below) (queue .above) small
+    sees Recorder = recorder-sees (capacity P) v (length (t .sent)) (length (t .delivered)) (queue .below) (queue .above) small
 
     checks : (side : Side) → wasBlocked side (capacity P) (plus 64 v (countOf side t)) (plus 64 v (countOf (other side) t)) ≡ eqb (roomIn P S v on (other side) t) 1
-    checks Sender = sender-checks (capacity P) v (length (t .sent)) (length (t .got)) (queue .below) (queue .above) small
-    checks Recorder = recorder-checks (capacity P) v (length (t .sent)) (length (t .got)) (queue .below) (queue .above) small
+    checks Sender = sender-checks (capacity P) v (length (t .sent)) (length (t .delivered)) (queue .below) (queue .above) small
+    checks Recorder = recorder-checks (capacity P) v (length (t .sent)) (length (t .delivered)) (queue .below) (queue .above) small
 
     pub tells-at : (own : Own) (c val : ℕ) → own ≡ sizes P S v on side → c ≡ plus 64 v (countOf side t) → (s : Step) → val ≡ valueOf r own (nextAt s side c)
         → Tells own (roomIn P S v on side t) (roomIn P S v on (other side) t) (stopAt side (leAt 4 r flagsAt)) (leAt 4 r (bellAt (sleepBell side))) c val s
@@ -186,10 +186,10 @@ module _ (P S v : ℕ) (on : Bool) (power-ok : powerOk P ≡ true) (slot-ok : sl
         (sym (copy-step own val Sender (ap (λ (x : Own). x .side) o)))
         (copy-written P S v on power-ok slot-ok r (real .fixed) t own c (p .tag) payload o h (mine .tag-small) (f refl))
     copy-hand Recorder own c val o h e f l k b q =
-        let n : Note = nth (t .sent) (length (t .got)) in
+        let n : Note = nth (t .sent) (length (t .delivered)) in
         subst (λ (s : Step). InHand P S v on Recorder (phase s) (leavesOf r own (ReadSlot c) (p .tag) payload) (traced (ReadSlot c) p payload b t))
         (sym (copy-step own val Recorder (ap (λ (x : Own). x .side) o)))
-        (rw (e, q) (copy-read P S v on power-ok slot-ok r (real .fixed) t own c o h n (real .queue .ring (length (t .got)) (omega arith) (omega arith)) (p .length) lent (l refl)
+        (rw (e, q) (copy-read P S v on power-ok slot-ok r (real .fixed) t own c o h n (real .queue .ring (length (t .delivered)) (omega arith) (omega arith)) (p .length) lent (l refl)
         (fitOf (headLength (valueOf r own (ReadSlot c))) (payloadCapacity (own .slot)) (p .length)) refl refl (leavesOf r own (ReadSlot c) (p .tag) payload)))
 
     hand-after : InHand P S v on side (phase next-step) left told

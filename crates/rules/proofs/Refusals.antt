@@ -7,7 +7,7 @@ use native.Mathlib.Omega.{arith}
 use lib.Dec.{T, leb, eqb}
 use lib.ListN.{length}
 use Rattle.types.specs.Pick.{pick}
-use Rattle.types.specs.Answers.{number, Check, check, firstOf}
+use Rattle.types.specs.Answers.{number, Test, test, firstOf}
 use Rattle.types.specs.declared.Side.{Side}
 use Rattle.types.specs.declared.Side.the-variants.{Sender, Recorder}
 use Rattle.types.specs.declared.Party.{Party}
@@ -15,7 +15,7 @@ use Rattle.types.specs.declared.Reply.{Reply}
 use Rattle.types.specs.declared.Turned.{Turned}
 use Rattle.types.specs.declared.Fault.{Fault}
 use Rattle.types.specs.declared.Step.{Step}
-use Rattle.types.specs.declared.Step.the-variants.{Rest, Look, Copy, Publish, Check as Checking, Raise, Wake, Gate, Epoch, Again, GateAgain, Wait, Asleep, CloseSet, CloseRaise, CloseWake, ShutSet, ShutRaiseNe, ShutWakeNe, ShutRaiseNf, ShutWakeNf}
+use Rattle.types.specs.declared.Step.the-variants.{Rest, Look, Copy, Publish, Check, Raise, Wake, Gate, Epoch, Again, GateAgain, Wait, Asleep, CloseSet, CloseRaise, CloseWake, ShutSet, ShutRaiseNe, ShutWakeNe, ShutRaiseNf, ShutWakeNf}
 use Rattle.types.specs.declared.Answer.{Answer}
 use Rattle.types.specs.declared.Answer.the-variants.{Done, InvalidMagic, UnsupportedVersion, InvalidHeaderSize, InvalidLayout, InvalidCapacity, InvalidSlotSize, CorruptIndices, CorruptSlot, Full, Empty, Closed, Shutdown, Timeout, WouldBlock, OutputTooSmall, AlreadyAttached, Syscall, PayloadTooLong, NotFullOff, BadCall, Nothing, Begun, GoesOn}
 use Rattle.words.proofs.Runs.{and-right}
@@ -28,7 +28,7 @@ use Rattle.rules.specs.Turn.{taken, refused, turnSpec, turnLeaves, turnB
 use Rattle.rules.specs.Given.{Checked, passed, fails, holds, Ask, create, attach, turn, Given, created, attached, push-bad, pop-bad, close-bad, shutdown-bad, spurious-bad, timeout-bad, turn-bad, push-closed, pop-closed, close-closed, push-off, push-long, push-begun, pop-begun, close-begun, shutdown-begun, spurious-idle, timeout-idle, spurious-taken, timeout-taken, turn-taken}
 use Rattle.rules.specs.Leaves.{AtRest, Unchanged, Leaves, Lent, LeavesAll}
 use Rattle.rules.proofs.Answered.{given-first}
-use Rattle.rules.proofs.Left.{ends-leaves}
+use Rattle.rules.proofs.Leaving.{ends-leaves}
 
 -- the answers that change nothing anywhere
 abbrev pub refuses : Answer → Bool
@@ -110,9 +110,9 @@ refusal-number Begun h = absurd h
 refusal-number GoesOn h = absurd h
 
 -- a list of checks whose every answer is such
-abbrev pub all-refuse : List Check → Bool
+abbrev pub all-refuse : List Test → Bool
 all-refuse [] = true
-all-refuse (check b a ∷ cs) = refuses a && all-refuse cs
+all-refuse (test b a ∷ cs) = refuses a && all-refuse cs
 
 pub first-refuses : (a : Bool) (b : Bool) → T (a && b) → T a
 first-refuses true b t = tt
@@ -122,7 +122,7 @@ pub others-refuse : (a : Bool) (b : Bool) → T (a && b) → T b
 others-refuse true b t = t
 others-refuse false b t = absurd t
 
-checked-leaves : {cs : List Check} {x : Answer} (w : Ask) → T (all-refuse cs) → AtRest w → ((y : Answer) → firstOf cs ≡ y → T (refuses y) → Unchanged w) → Checked cs x → Leaves x w
+checked-leaves : {cs : List Test} {x : Answer} (w : Ask) → T (all-refuse cs) → AtRest w → ((y : Answer) → firstOf cs ≡ y → T (refuses y) → Unchanged w) → Checked cs x → Leaves x w
 checked-leaves w t r u passed = r
 checked-leaves w t r u (fails {b} {a} {cs} e) =
     let s = first-refuses (refuses a) (all-refuse cs) t in
@@ -192,7 +192,7 @@ resting-step Rest e = refl
 resting-step Look e = absurd (let z : _≡_ {A = ℕ} 0 1 = cc in omega arith)
 resting-step Copy e = absurd (let z : _≡_ {A = ℕ} 0 1 = cc in omega arith)
 resting-step (Publish l t) e = absurd (let z : _≡_ {A = ℕ} 0 1 = cc in omega arith)
-resting-step (Checking l t) e = absurd (let z : _≡_ {A = ℕ} 0 1 = cc in omega arith)
+resting-step (Check l t) e = absurd (let z : _≡_ {A = ℕ} 0 1 = cc in omega arith)
 resting-step (Raise l t) e = absurd (let z : _≡_ {A = ℕ} 0 1 = cc in omega arith)
 resting-step (Wake l t) e = absurd (let z : _≡_ {A = ℕ} 0 1 = cc in omega arith)
 resting-step Gate e = absurd (let z : _≡_ {A = ℕ} 0 1 = cc in omega arith)

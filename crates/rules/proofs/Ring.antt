@@ -80,8 +80,8 @@ module _ (P S v : ℕ) (on : Bool) (power-ok : powerOk P ≡ true) (slot-ok : sl
       abbrev told : Access → Trace
       told a = traced a p payload buffer t
 
-      pub queue-still : (r′ : List ℕ) (t′ : Trace) → t′ .sent ≡ t .sent → t′ .got ≡ t .got
-          → ((i : ℕ) (n : Note) → length (t .got) ≤ i → i < length (t .sent) → HoldsAt P S v on r i n → HoldsAt P S v on r′ i n) → Queue P S v on r′ t′
+      pub queue-still : (r′ : List ℕ) (t′ : Trace) → t′ .sent ≡ t .sent → t′ .delivered ≡ t .delivered
+          → ((i : ℕ) (n : Note) → length (t .delivered) ≤ i → i < length (t .sent) → HoldsAt P S v on r i n → HoldsAt P S v on r′ i n) → Queue P S v on r′ t′
       queue-still r′ t′ e f k =
           record {
             below = rw (e, f) (queue .below);
@@ -92,38 +92,38 @@ module _ (P S v : ℕ) (on : Bool) (power-ok : powerOk P ≡ true) (slot-ok : sl
 
       -- no note more and none fewer, and no slot written
       pub queue-quiet : (a : Access) → ((i : ℕ) → Elsewhere r (p .own) (p .tag) payload (header-in P S v on r p payload fixed) a (slotAt P S (plus 64 v i)) S)
-          → told a .sent ≡ t .sent → told a .got ≡ t .got → Queue P S v on (left a) (told a)
+          → told a .sent ≡ t .sent → told a .delivered ≡ t .delivered → Queue P S v on (left a) (told a)
       queue-quiet a w e f = queue-still (left a) (told a) e f (λ i n h l. holds-kept i n a (w i))
 
       last-is : (notes : List Note) (n : Note) → nth (notes ++ (n ∷ [])) (length notes) ≡ n
       last-is notes n = getD-append-seam notes n [] blank
 
       -- a note sent
-      pub queue-sent : (c : ℕ) → length (t .sent) < length (t .got) + capacity P → HoldsAt P S v on r (length (t .sent)) (t .hand) → Queue P S v on (left (StoreCounter Sender c)) (told (StoreCounter Sender c))
+      pub queue-sent : (c : ℕ) → length (t .sent) < length (t .delivered) + capacity P → HoldsAt P S v on r (length (t .sent)) (t .hand) → Queue P S v on (left (StoreCounter Sender c)) (told (StoreCounter Sender c))
       queue-sent c room hand =
           record {
             below = rw (length-more (t .sent) (t .hand)) (omega (arith, queue .below));
             above = rw (length-more (t .sent) (t .hand)) (omega arith);
-            order = queue .order ∙ sym (take-append-le (length (t .got)) (t .sent) (t .hand ∷ []) (queue .below));
+            order = queue .order ∙ sym (take-append-le (length (t .delivered)) (t .sent) (t .hand ∷ []) (queue .below));
             ring = λ i h l. by i h (rw (length-more (t .sent) (t .hand)) at l) (decLt i (length (t .sent)));
           }
         where
-          by : (i : ℕ) → length (t .got) ≤ i → i < length (t .sent) + 1 → Dec (i < length (t .sent)) → HoldsAt P S v on (left (StoreCounter Sender c)) i (nth (t .sent ++ (t .hand ∷ [])) i)
+          by : (i : ℕ) → length (t .delivered) ≤ i → i < length (t .sent) + 1 → Dec (i < length (t .sent)) → HoldsAt P S v on (left (StoreCounter Sender c)) i (nth (t .sent ++ (t .hand ∷ [])) i)
           by i h l (yes q) = rw (List·getD-append (t .sent) (t .hand ∷ []) blank i q) (holds-kept i (nth (t .sent) i) (StoreCounter Sender c) tt (queue .ring i h q))
           by i h l (no q) =
               let e : i ≡ length (t .sent) = omega arith in
               rw (e, last-is (t .sent) (t .hand)) (holds-kept (length (t .sent)) (t .hand) (StoreCounter Sender c) tt hand)
 
       -- the first waiting note delivered
-      pub queue-got : (c : ℕ) (s : SlotHead) → published Recorder s t ≡ told (StoreCounter Recorder c) → length (t .got) < length (t .sent)
-          → nth (t .sent) (length (t .got)) ≡ record { tag = s .tag; body = take (s .length) (t .buffer) }
+      pub queue-got : (c : ℕ) (s : SlotHead) → published Recorder s t ≡ told (StoreCounter Recorder c) → length (t .delivered) < length (t .sent)
+          → nth (t .sent) (length (t .delivered)) ≡ record { tag = s .tag; body = take (s .length) (t .buffer) }
           → Queue P S v on (left (StoreCounter Recorder c)) (published Recorder s t)
       queue-got c s q room first =
           record {
-            below = rw (length-more (t .got) n) (omega arith);
-            above = rw (length-more (t .got) n) (omega (arith, queue .above));
-            order = rw (length-more (t .got) n, add-one) (ap₂ (λ (xs : List Note) (x : Note). xs ++ (x ∷ [])) (queue .order) (sym first) ∙ sym (take-suc (t .sent) (length (t .got)) blank room));
-            ring = λ i h l. holds-kept i (nth (t .sent) i) (StoreCounter Recorder c) tt (queue .ring i (omega (arith, rw (length-more (t .got) n) at h)) l);
+            below = rw (length-more (t .delivered) n) (omega arith);
+            above = rw (length-more (t .delivered) n) (omega (arith, queue .above));
+            order = rw (length-more (t .delivered) n, add-one) (ap₂ (λ (xs : List Note) (x : Note). xs ++ (x ∷ [])) (queue .order) (sym first) ∙ sym (take-suc (t .sent) (length (t .delivered)) blank room));
+            ring = λ i h l. holds-kept i (nth (t .sent) i) (StoreCounter Recorder c) tt (queue .ring i (omega (arith, rw (length-more (t .delivered) n) at h)) l);
           }
         where
           n : Note

@@ -25,7 +25,7 @@ use Rattle.rules.specs.Sides.{other, sameSide}
 use Rattle.rules.specs.Take.{stanceOf}
 use Rattle.rules.specs.Calls.{at, named, reply, ready, sound, isSleeping, pushSpec, popSpec, closeSpec, shutSpec, spuriousSpec, timeoutSpec}
 use Rattle.rules.specs.Bench.{seat, settled, played, playedLeaves}
-use Rattle.rules.specs.Run.{World, Happening, attaches, plays, partyIn, takes, happens, run, begin, rungOf}
+use Rattle.rules.specs.Run.{World, Happening, attaches, plays, partyIn, takes, happens, run, opened, rungOf}
 use Rattle.rules.specs.Premises.{Typed, AllTyped, Timely, FairTurnBy, FairBy, AllFair, AllLand, parting, partings}
 use Rattle.rules.specs.Stretch.{holdsEpoch}
 use Rattle.rules.specs.Claims.{Fresh, SeldomRung, WakesAlone}
@@ -238,14 +238,14 @@ module _ (r : List ℕ) (P S : ℕ) (on : Bool) (v : ℕ) (fresh : Fresh r P S o
   abbrev region : List ℕ
   region = created r P S on v
 
-  rung-start : (σ : Side) → Rung P S v on 0 σ (begin region)
+  rung-start : (σ : Side) → Rung P S v on 0 σ (opened region)
   rung-start Sender h = absurd (let z : _≡_ {A = ℕ} 0 1 = cc in omega arith)
   rung-start Recorder h = absurd (let z : _≡_ {A = ℕ} 0 1 = cc in omega arith)
 
   pub seldom : (side : Side) → SeldomRung r P S on v side
   seldom side hs y h =
-      omega (arith, rung-run P S v on (power-fits r P S on v fresh) (slot-fits r P S on v fresh) side hs (begin region) 0 y (real-start r P S on v fresh) (rung-start side) h)
+      omega (arith, rung-run P S v on (power-fits r P S on v fresh) (slot-fits r P S on v fresh) side hs (opened region) 0 y (real-start r P S on v fresh) (rung-start side) h)
 
   pub wakes-alone : (side : Side) → WakesAlone r P S on v side
   wakes-alone side hs y few l =
-      fair-run P S v on (power-fits r P S on v fresh) (slot-fits r P S on v fresh) side hs (begin region) 0 y (real-start r P S on v fresh) (rung-start side) (omega arith) l
+      fair-run P S v on (power-fits r P S on v fresh) (slot-fits r P S on v fresh) side hs (opened region) 0 y (real-start r P S on v fresh) (rung-start side) (omega arith) l

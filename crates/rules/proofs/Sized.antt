@@ -31,7 +31,7 @@ use Rattle.rules.specs.Calls.{isSleeping, lengthOk, sound, ready, reply,
 use Rattle.rules.specs.Turn.{lentTo, lentOk, goes, wokeOf, errorOf}
 use Rattle.rules.specs.Next.{nextSpec}
 use Rattle.rules.specs.Bench.{seat, hears, wakened, settled, played, playedLeaves}
-use Rattle.rules.specs.Run.{World, Happening, attaches, plays, partyIn, takes, happens, run, begin}
+use Rattle.rules.specs.Run.{World, Happening, attaches, plays, partyIn, takes, happens, run, opened}
 use Rattle.rules.proofs.Taken.{turnWorld, turn-refused, turn-taken}
 use Rattle.rules.proofs.Seats.{roused}
 use Rattle.rules.proofs.Real.{sizes, Real}
@@ -127,7 +127,7 @@ unfolding run
 sized-run [] w h = h
 sized-run (e ∷ hs) w h = sized-run hs (happens e w) (sized-happens e w h)
 
-pub sized-start : (region : List ℕ) → Sized (begin region)
+pub sized-start : (region : List ℕ) → Sized (opened region)
 sized-start region = nothing-fits (payloadCapacity 0)
 
 -- an attached party's record is sound

@@ -19,10 +19,10 @@ use Rattle.rules.specs.Take.{stanceOf, stepAfter, moveOf}
 use Rattle.rules.specs.Next.{nextSpec}
 use Rattle.rules.specs.Calls.{sound, lengthOk}
 use Rattle.rules.specs.Access.{valueOf, leavesOf, bufferOf}
-use Rattle.rules.specs.Turn.{errorOf, faultOk, lentTo, lentOk, goes, wokeOf, runSpec, runLeaves, runBuffer, turnSpec, turnLeaves}
+use Rattle.rules.specs.Turn.{errorOf, faultOk, lentTo, lentOk, goes, wokeOf, actSpec, actLeaves, actBuffer, turnSpec, turnLeaves}
 use Rattle.rules.specs.Bench.{partyOf, seat, wakened, turned}
 use Rattle.rules.specs.Run.{World, partyIn, takes, traced, turnTraced}
-use Rattle.rules.proofs.Left.{made, turn-is, leaves-is, party-is}
+use Rattle.rules.proofs.Leaving.{made, turn-is, leaves-is, party-is}
 use Rattle.rules.proofs.Seats.{moved}
 
 -- what a turn of a side makes of a world
@@ -99,7 +99,7 @@ module _ (w : World) (side : Side) (payload lent : List ℕ) (fault : Fault) whe
       bench = seat (seat (w .bench) side (moved p (p .step) (stepAfter (moveOf p value (errorOf fault)) (p .step)))) (other side) woken;
       trace = traced (nextSpec p) p payload (bufferOf (w .region) (p .own) (nextSpec p) (p .length) lent) (w .trace);
     }
-    unfolding made runLeaves runBuffer runSpec turned
+    unfolding made actLeaves actBuffer actSpec turned
     turn-taken = λ i. record { region = a i; bench = b i; trace = c i }
       where
         a : turnLeaves side (w .region) p payload lent fault ≡ leavesOf (w .region) (p .own) (nextSpec p) (p .tag) payload

@@ -17,7 +17,7 @@ use Rattle.types.specs.declared.Step.the-variants.{Rest, Look, Copy, Publish, C
 use Rattle.layout.specs.Limits.{payloadCapacity}
 use Rattle.rules.specs.Next.{nextAt, nextSpec}
 use Rattle.rules.specs.Access.{readOut, valueOf, leavesOf, bufferOf}
-use Rattle.rules.specs.Turn.{goes, runSpec, runLeaves, runBuffer, turnSpec, turnLeaves, turnBuffer}
+use Rattle.rules.specs.Turn.{goes, actSpec, actLeaves, actBuffer, turnSpec, turnLeaves, turnBuffer}
 use Rattle.rules.specs.Touch.{Touch, touchOf, touchedAt, touchedBytes, seenBy, GivenBy, TouchesOne, TouchesNone, SeesOne, GivesOne}
 use Rattle.rules.proofs.OneAccess.{writesAt, writes, leaves-other, leaves-all}
 
@@ -129,7 +129,7 @@ module _ (side : Side) (p : Party) (payload buffer : List ℕ) (fault : Fault) w
   outside k a n b m e f o = rw (e, f) o
 
   pub touches-one : TouchesOne side p payload buffer fault
-  unfolding turnLeaves runLeaves nextSpec
+  unfolding turnLeaves actLeaves nextSpec
   touches-one r k o = by (pick-goes r)
     where
       by : (b : Bool) → getD (pick b (leavesOf r (p .own) (nextAt (p .step) (p .own .side) (p .counter)) (p .tag) payload) r) k 0 ≡ getD r k 0
@@ -139,7 +139,7 @@ module _ (side : Side) (p : Party) (payload buffer : List ℕ) (fault : Fault) w
           (outside k _ _ _ _ (place-is (p .own) p (p .own .side) (p .step) refl refl) (bytes-are (p .counter) (length payload) (p .own .side) (p .step)) o)
 
   pub touches-none : TouchesNone side p payload buffer fault
-  unfolding turnLeaves runLeaves nextSpec
+  unfolding turnLeaves actLeaves nextSpec
   touches-none e r = by (pick-goes r)
     where
       by : (b : Bool) → pick b (leavesOf r (p .own) (nextAt (p .step) (p .own .side) (p .counter)) (p .tag) payload) r ≡ r
@@ -149,12 +149,12 @@ module _ (side : Side) (p : Party) (payload buffer : List ℕ) (fault : Fault) w
           (bytes-are (p .counter) (length payload) (p .own .side) (p .step) ∙ ap (λ (x : Touch). touchedBytes x (length payload)) e)
 
   pub sees-one : SeesOne side p payload buffer fault
-  unfolding turnSpec runSpec nextSpec
+  unfolding turnSpec actSpec nextSpec
   sees-one r s l e =
       let a = nextAt (p .step) (p .own .side) (p .counter) in
       let v : valueOf r (p .own) a ≡ valueOf s (p .own) a = value-is r p (p .own .side) (p .step) ∙ e ∙ sym (value-is s p (p .own .side) (p .step)) in
       rw (l, v)
 
   pub gives-one : GivesOne side p payload buffer fault
-  unfolding turnBuffer runBuffer nextSpec
+  unfolding turnBuffer actBuffer nextSpec
   gives-one r s l h = rw (l, given-is r s p buffer (p .own .side) (p .step) h)

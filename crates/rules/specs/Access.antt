@@ -6,7 +6,7 @@ use Rattle.words.specs.Le.{leAt, putLe}
 use Rattle.words.specs.Wrap.{next}
 use Rattle.types.specs.declared.Own.{Own}
 use Rattle.types.specs.declared.Fit.{Fit}
-use Rattle.types.specs.declared.Fit.the-variants.{Bad, Small, Good}
+use Rattle.types.specs.declared.Fit.the-variants.{Bad, Small, Fits}
 use Rattle.types.specs.declared.Access.{Access}
 use Rattle.types.specs.declared.Access.the-variants.{None, LoadCounter, LoadFlags, LoadBell, WriteSlot, ReadSlot, StoreCounter, RaiseBell, SetFlag, WaitBell, WakeBell}
 use Rattle.layout.specs.Limits.{payloadCapacity}
@@ -54,7 +54,7 @@ leavesOf region own (WakeBell b n) tag payload = region
 abbrev pub copiedOut : Fit → (buffer slot : List ℕ) → (length : ℕ) → List ℕ
 copiedOut Bad buffer slot length = buffer
 copiedOut Small buffer slot length = buffer
-copiedOut Good buffer slot length = bufferPut buffer slot length
+copiedOut Fits buffer slot length = bufferPut buffer slot length
 
 abbrev pub readOut : (named payloadCapacity : ℕ) → (buffer slot : List ℕ) → List ℕ
 readOut named payloadCapacity buffer slot =

@@ -23,8 +23,8 @@ use Rattle.rules.specs.Sides.{other}
 use Rattle.types.specs.declared.Party.{Party}
 use Rattle.rules.specs.Calls.{sound, at, named, pushSpec, popSpec, closeSpec, shutSpec}
 use Rattle.rules.specs.Turn.{turnSpec}
-use Rattle.rules.specs.Run.{Note, Trace, World, Happening, plays, partyIn, takes, happens, run, begin}
-use Rattle.rules.specs.Premises.{AllTyped, AllFair, AllLand, rung, partings, Still, down, closedBit}
+use Rattle.rules.specs.Run.{Note, Trace, World, Happening, plays, partyIn, takes, happens, run, opened}
+use Rattle.rules.specs.Premises.{AllTyped, AllFair, AllLand, rung, partings, Quiet, down, closedBit}
 use Rattle.rules.specs.Stretch.{moves, calling, ticksBy, ticks, beats, AllOwn, Willing, inCall, notesOf, holdsEpoch, Underway, inWait, Turns}
 
 -- how many notes wait: head − tail, in the region's bytes
@@ -50,7 +50,7 @@ pub data Delivering : Step → Type 0 where
 -- the last note delivered has that length and tag, and the buffer begins with its bytes
 abbrev pub Carries : (length tag : ℕ) → Trace → Type 0
 Carries l t trace =
-    (before : List Note) × ((n : Note) × ((trace .got ≡ before ++ (n ∷ [])) × ((n .tag ≡ t) × ((length (n .body) ≡ l) × (take l (trace .buffer) ≡ n .body)))))
+    (before : List Note) × ((n : Note) × ((trace .delivered ≡ before ++ (n ∷ [])) × ((n .tag ≡ t) × ((length (n .body) ≡ l) × (take l (trace .buffer) ≡ n .body)))))
 
 -- T8: asking is taken. A party at rest, with a sound record (attached, of that side, its sizes and length within the limits),
 -- is begun: a push that is not closed, not 19 and not 18; a pop and a close that are not closed; a shutdown always
@@ -75,13 +75,13 @@ module _ (region : List ℕ) (power slot : ℕ) (notfull : Bool) (start : ℕ) w
   Fresh = (createAnswer (length region) power slot ≡ Done 0 0) × (start < 2 ^ 64)
 
   abbrev pub reached : List Happening → World
-  reached hs = run hs (begin (created region power slot notfull start))
+  reached hs = run hs (opened (created region power slot notfull start))
 
   -- T1: the notes delivered are the first ones sent, the rest waits, and never more wait than there are slots
   abbrev pub InOrder : Type 0
   InOrder = (hs : List Happening) → AllTyped hs
       → (waiting (reached hs) ≤ capacity power)
-      × ((rest : List Note) × (reached hs .trace .sent ≡ reached hs .trace .got ++ rest) × (length rest ≡ waiting (reached hs)))
+      × ((rest : List Note) × (reached hs .trace .sent ≡ reached hs .trace .delivered ++ rest) × (length rest ≡ waiting (reached hs)))
 
   -- and the Done that ends a pop carries the length and the tag of the note that it delivered, with the buffer still
   -- beginning with its bytes
@@ -95,12 +95,12 @@ module _ (region : List ℕ) (power slot : ℕ) (notfull : Bool) (start : ℕ) w
   -- T3: a party asleep while the other is between calls or asleep has no room, nobody has shut down, and the other has not
   -- closed; so the two are never asleep together
   abbrev pub WithCause : Side → Type 0
-  WithCause side = (hs : List Happening) → AllTyped hs → AllFair side hs (begin (created region power slot notfull start))
-      → partyIn (reached hs) side .step ≡ Asleep → Still (other side) (reached hs)
+  WithCause side = (hs : List Happening) → AllTyped hs → AllFair side hs (opened (created region power slot notfull start))
+      → partyIn (reached hs) side .step ≡ Asleep → Quiet (other side) (reached hs)
       → (room side (capacity power) (reached hs) ≡ 0) × ((down (reached hs) ≡ false) × (closedBit (other side) (reached hs) ≡ false))
 
   abbrev pub NotBoth : Type 0
-  NotBoth = (hs : List Happening) → AllTyped hs → ((side : Side) → AllFair side hs (begin (created region power slot notfull start)))
+  NotBoth = (hs : List Happening) → AllTyped hs → ((side : Side) → AllFair side hs (opened (created region power slot notfull start)))
       → partyIn (reached hs) Sender .step ≡ Asleep → partyIn (reached hs) Recorder .step ≡ Asleep → ⊥
 
   -- the bell's premise: between its look at its bell and its wait a side's bell is raised at most twice, and once more for each
@@ -111,11 +111,11 @@ module _ (region : List ℕ) (power slot : ℕ) (notfull : Bool) (start : ℕ) w
 
   abbrev pub WakesAlone : Side → Type 0
   WakesAlone side = (hs : List Happening) → AllTyped hs → 2 + partings (other side) hs < 2 ^ 32
-      → AllLand side hs (begin (created region power slot notfull start)) → AllFair side hs (begin (created region power slot notfull start))
+      → AllLand side hs (opened (created region power slot notfull start)) → AllFair side hs (opened (created region power slot notfull start))
 
   -- T2: the other between calls or asleep and not moving, the party in a push or a pop or between calls, and willing ..
   abbrev pub Willed : Side → (hs ms : List Happening) → Type 0
-  Willed side hs ms = AllTyped (hs ++ ms) × (Still (other side) (reached hs) × ((inCall (partyIn (reached hs) side .step) ≡ true) × Willing side ms (reached hs)))
+  Willed side hs ms = AllTyped (hs ++ ms) × (Quiet (other side) (reached hs) × ((inCall (partyIn (reached hs) side .step) ≡ true) × Willing side ms (reached hs)))
 
   -- .. in the end no room is left, and not because the other did anything
   abbrev pub Emptied : Side → (hs ms : List Happening) → Type 0
@@ -128,10 +128,7 @@ module _ (region : List ℕ) (power slot : ℕ) (notfull : Bool) (start : ℕ) w
 
   -- .. and, on a run that is fair to it, of its turns in a call, those it sleeps through counted too: it does not sleep over room
   abbrev pub Going : Side → (hs ms : List Happening) → Type 0
-  Going side hs ms =
-      AllTyped (hs ++ ms)
-      × (AllFair side (hs ++ ms) (begin (created region power slot notfull start))
-      × (Still (other side) (reached hs) × ((inCall (partyIn (reached hs) side .step) ≡ true) × Willing side ms (reached hs))))
+  Going side hs ms = Willed side hs ms × AllFair side (hs ++ ms) (opened (created region power slot notfull start))
 
   abbrev pub Alone : Side → (hs ms : List Happening) → Type 0
   Alone side hs ms = Going side hs ms × (4 * room side (capacity power) (reached hs) + 3 ≤ beats ms (reached hs))
@@ -139,14 +136,14 @@ module _ (region : List ℕ) (power slot : ℕ) (notfull : Bool) (start : ℕ) w
   abbrev pub Bounded : Side → Type 0
   Bounded side = (hs ms : List Happening) → Alone side hs ms → Emptied side hs ms
 
-  -- either way a recorder has then got every note that was sent
+  -- either way a recorder has then delivered every note that was sent
   abbrev pub GetsAll : Type 0
-  GetsAll = (hs ms : List Happening) → AllTyped (hs ++ ms) → Emptied Recorder hs ms → reached (hs ++ ms) .trace .got ≡ reached hs .trace .sent
+  GetsAll = (hs ms : List Happening) → AllTyped (hs ++ ms) → Emptied Recorder hs ms → reached (hs ++ ms) .trace .delivered ≡ reached hs .trace .sent
 
   -- willing stretches of every length exist from every state of the premises: the party attached and not closed
   abbrev pub Lasts : Side → Type 0
-  Lasts side = (hs : List Happening) → AllTyped hs → AllFair side hs (begin (created region power slot notfull start))
-      → Still (other side) (reached hs) → inCall (partyIn (reached hs) side .step) ≡ true → partyIn (reached hs) side .own .attached ≡ true → partyIn (reached hs) side .closed ≡ false → Underway side (reached hs)
+  Lasts side = (hs : List Happening) → AllTyped hs → AllFair side hs (opened (created region power slot notfull start))
+      → Quiet (other side) (reached hs) → inCall (partyIn (reached hs) side .step) ≡ true → partyIn (reached hs) side .own .attached ≡ true → partyIn (reached hs) side .closed ≡ false → Underway side (reached hs)
       → (n : ℕ) → (ms : List Happening) × (Going side hs ms × (n ≤ ticks ms (reached hs)))
 
   -- and the bound is reached: one turn fewer, and a note is left
@@ -157,7 +154,7 @@ module _ (region : List ℕ) (power slot : ℕ) (notfull : Bool) (start : ℕ) w
 
   -- T4: once the other has closed or anyone has shut down, and the other is between calls or asleep and not moving ..
   abbrev pub Stopped : Side → (hs : List Happening) → Type 0
-  Stopped side hs = Still (other side) (reached hs) × ((down (reached hs) || closedBit (other side) (reached hs)) ≡ true)
+  Stopped side hs = Quiet (other side) (reached hs) × ((down (reached hs) || closedBit (other side) (reached hs)) ≡ true)
 
   -- .. a call under way has answered after a first part of at most 7 turns of its own, whatever its waits do and whatever it asks meanwhile
   abbrev pub AtRest : (counted : Stance → Bool) → Side → (hs ms : List Happening) → Type 0
@@ -169,13 +166,13 @@ module _ (region : List ℕ) (power slot : ℕ) (notfull : Bool) (start : ℕ) w
   EndsTicks side = (hs ms : List Happening) → AllTyped (hs ++ ms) → Stopped side hs → AllOwn side ms → 7 ≤ ticks ms (reached hs) → AtRest moves side hs ms
 
   abbrev pub Ends : Side → Type 0
-  Ends side = (hs ms : List Happening) → AllTyped (hs ++ ms) → AllFair side (hs ++ ms) (begin (created region power slot notfull start))
+  Ends side = (hs ms : List Happening) → AllTyped (hs ++ ms) → AllFair side (hs ++ ms) (opened (created region power slot notfull start))
       → Stopped side hs → AllOwn side ms → 7 ≤ beats ms (reached hs) → AtRest calling side hs ms
 
   -- T9: a party alone in a blocking call with no room, nobody closed or shut down, no wait failing, is asleep within 9 turns of
   -- its own, and within 6 of its look ..
-  abbrev pub Sleeps : Side → Type 0
-  Sleeps side = (hs ms : List Happening) → AllTyped hs
+  abbrev pub FallsAsleep : Side → Type 0
+  FallsAsleep side = (hs ms : List Happening) → AllTyped hs
       → room side (capacity power) (reached hs) ≡ 0 → down (reached hs) ≡ false → closedBit (other side) (reached hs) ≡ false
       → partyIn (reached hs) side .blocking ≡ true → inWait (partyIn (reached hs) side .step) ≡ true → Turns side ms
       → 9 ≤ ticks ms (reached hs)

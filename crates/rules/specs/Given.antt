@@ -6,18 +6,18 @@ use mathlib.Core.List.{List, [], _∷_}
 use Prim.Native.Nat.{ℕ}
 use lib.Dec.{eqb, leb}
 use lib.ListN.{length}
-use Rattle.types.specs.Answers.{Check, check}
+use Rattle.types.specs.Answers.{Test, test}
 use Rattle.types.specs.declared.Side.{Side}
 use Rattle.types.specs.declared.Side.the-variants.{Sender, Recorder}
 use Rattle.types.specs.declared.Bell.the-variants.{NotEmpty, NotFull}
 use Rattle.types.specs.declared.Party.{Party}
 use Rattle.types.specs.declared.Fault.{Fault}
-use Rattle.types.specs.declared.Room.the-variants.{Stuck}
+use Rattle.types.specs.declared.Room.the-variants.{Blocked}
 use Rattle.types.specs.declared.Door.the-variants.{Shut, Left}
 use Rattle.types.specs.declared.Fit.the-variants.{Bad, Small}
-use Rattle.types.specs.declared.Nap.the-variants.{Late, Fails}
+use Rattle.types.specs.declared.Nap.the-variants.{TimedOut, Fails}
 use Rattle.types.specs.declared.Step.{Step}
-use Rattle.types.specs.declared.Step.the-variants.{Rest, Look, Copy, Publish, Check as Checking, Wake, Gate, GateAgain, Wait, Asleep, CloseSet, CloseWake, ShutWakeNf}
+use Rattle.types.specs.declared.Step.the-variants.{Rest, Look, Copy, Publish, Check, Wake, Gate, GateAgain, Wait, Asleep, CloseSet, CloseWake, ShutWakeNf}
 use Rattle.types.specs.declared.Move.the-variants.{To}
 use Rattle.types.specs.declared.Answer.{Answer}
 use Rattle.types.specs.declared.Answer.the-variants.{Done, CorruptIndices, CorruptSlot, Full, Empty, Closed, Shutdown, Timeout, OutputTooSmall, Syscall, PayloadTooLong, NotFullOff, BadCall, Nothing, Begun, GoesOn}
@@ -33,16 +33,16 @@ use Rattle.rules.specs.Calls.{isSleeping, sound, ready, pushSpec, popSpe
 use Rattle.rules.specs.Turn.{errorOf, taken, turnSpec}
 
 -- the answer of a list of checks: the first that fails refuses, and where none fails it is done
-pub data Checked : List Check → Answer → Type 0 where
+pub data Checked : List Test → Answer → Type 0 where
   passed : Checked [] (Done 0 0)
-  fails : {b : Bool} {a : Answer} {cs : List Check} → b ≡ false → Checked (check b a ∷ cs) a
-  holds : {b : Bool} {a x : Answer} {cs : List Check} → b ≡ true → Checked cs x → Checked (check b a ∷ cs) x
+  fails : {b : Bool} {a : Answer} {cs : List Test} → b ≡ false → Checked (test b a ∷ cs) a
+  holds : {b : Bool} {a x : Answer} {cs : List Test} → b ≡ true → Checked cs x → Checked (test b a ∷ cs) x
 
 -- the turn of a party that is refused by nothing; v is what its access gives back, e the announced error (0: none)
 pub data EndsWith (p : Party) (v e : ℕ) : Answer → Type 0 where
   -- 0
   published : {l t : ℕ} → p .step ≡ Publish l t → rings (p .own .side) (p .own .notfull) ≡ false → EndsWith p v e (Done l t)
-  checked : {l t : ℕ} → p .step ≡ Checking l t → wasBlocked (p .own .side) (capacity (p .own .power)) (p .counter) v ≡ false → EndsWith p v e (Done l t)
+  checked : {l t : ℕ} → p .step ≡ Check l t → wasBlocked (p .own .side) (capacity (p .own .power)) (p .counter) v ≡ false → EndsWith p v e (Done l t)
   woke : {l t : ℕ} → p .step ≡ Wake l t → eqb e 0 ≡ true → EndsWith p v e (Done l t)
   closed-alone : p .step ≡ CloseSet → rings (p .own .side) (p .own .notfull) ≡ false → EndsWith p v e (Done 0 0)
   closed : p .step ≡ CloseWake → eqb e 0 ≡ true → EndsWith p v e (Done 0 0)
@@ -53,15 +53,15 @@ pub data EndsWith (p : Party) (v e : ℕ) : Answer → Type 0 where
   bad-slot : p .step ≡ Copy → p .own .side ≡ Recorder → fitOf (headLength v) (payloadCapacity (p .own .slot)) (p .length) ≡ Bad → EndsWith p v e CorruptSlot
   too-small : p .step ≡ Copy → p .own .side ≡ Recorder → fitOf (headLength v) (payloadCapacity (p .own .slot)) (p .length) ≡ Small → EndsWith p v e (OutputTooSmall (headLength v))
   -- 9, 10
-  full : p .step ≡ Look → p .own .side ≡ Sender → p .blocking ≡ false → roomOf Sender (capacity (p .own .power)) (p .counter) v ≡ Stuck → EndsWith p v e Full
-  empty : p .step ≡ Look → p .own .side ≡ Recorder → p .blocking ≡ false → roomOf Recorder (capacity (p .own .power)) (p .counter) v ≡ Stuck → EndsWith p v e Empty
+  full : p .step ≡ Look → p .own .side ≡ Sender → p .blocking ≡ false → roomOf Sender (capacity (p .own .power)) (p .counter) v ≡ Blocked → EndsWith p v e Full
+  empty : p .step ≡ Look → p .own .side ≡ Recorder → p .blocking ≡ false → roomOf Recorder (capacity (p .own .power)) (p .counter) v ≡ Blocked → EndsWith p v e Empty
   -- 11, 12
   left : p .step ≡ Gate → doorOf (p .own .side) v ≡ Left → EndsWith p v e Closed
   left-again : {epoch : ℕ} → p .step ≡ GateAgain epoch → doorOf (p .own .side) v ≡ Left → EndsWith p v e Closed
   down : p .step ≡ Gate → doorOf (p .own .side) v ≡ Shut → EndsWith p v e Shutdown
   down-again : {epoch : ℕ} → p .step ≡ GateAgain epoch → doorOf (p .own .side) v ≡ Shut → EndsWith p v e Shutdown
   -- 13
-  late : {epoch : ℕ} → p .step ≡ Wait epoch → napOf e (eqb v epoch) ≡ Late → EndsWith p v e Timeout
+  timed-out : {epoch : ℕ} → p .step ≡ Wait epoch → napOf e (eqb v epoch) ≡ TimedOut → EndsWith p v e Timeout
   -- 17: its operation and its error
   wake-failed : {l t : ℕ} → p .step ≡ Wake l t → eqb e 0 ≡ false → EndsWith p v e (Syscall (wakeOp (ringBell (p .own .side))) e)
   close-failed : p .step ≡ CloseWake → eqb e 0 ≡ false → EndsWith p v e (Syscall (wakeOp (ringBell (p .own .side))) e)

@@ -8,20 +8,20 @@ use Rattle.types.specs.declared.Side.{Side}
 use Rattle.types.specs.declared.Side.the-variants.{Sender, Recorder}
 use Rattle.types.specs.declared.Mark.the-variants.{Shutdown}
 use Rattle.types.specs.declared.Room.{Room}
-use Rattle.types.specs.declared.Room.the-variants.{Corrupt, Stuck, Free}
+use Rattle.types.specs.declared.Room.the-variants.{Corrupt, Blocked, Free}
 use Rattle.types.specs.declared.Door.{Door}
 use Rattle.types.specs.declared.Door.the-variants.{Shut, Left, Open}
 use Rattle.types.specs.declared.Fit.{Fit}
-use Rattle.types.specs.declared.Fit.the-variants.{Bad, Small, Good}
+use Rattle.types.specs.declared.Fit.the-variants.{Bad, Small, Fits}
 use Rattle.types.specs.declared.Nap.{Nap}
-use Rattle.types.specs.declared.Nap.the-variants.{Sleeps, Returns, Late, Fails}
+use Rattle.types.specs.declared.Nap.the-variants.{Sleeps, Returns, TimedOut, Fails}
 use Rattle.types.specs.declared.SlotHead.{SlotHead}
 use Rattle.layout.specs.Flags.{worth, bitOn, closeMark}
 use Rattle.rules.specs.Sides.{other, used, limit}
 
 -- P1, C1, B3, W3: the other side's counter
 abbrev pub roomWith : (used capacity limit : ℕ) → Room
-roomWith used capacity limit = pick (ltb capacity used) Corrupt (pick (eqb used limit) Stuck Free)
+roomWith used capacity limit = pick (ltb capacity used) Corrupt (pick (eqb used limit) Blocked Free)
 
 unfoldable pub roomOf : Side → (capacity own their : ℕ) → Room
 roomOf side capacity own their = roomWith (used side own their) capacity (limit side capacity)
@@ -48,10 +48,10 @@ headTag word = word / 2 ^ 16 % 2 ^ 16
 
 -- 8 before 15
 unfoldable pub fitOf : (length payloadCapacity buffer : ℕ) → Fit
-fitOf length payloadCapacity buffer = pick (ltb payloadCapacity length) Bad (pick (ltb buffer length) Small Good)
+fitOf length payloadCapacity buffer = pick (ltb payloadCapacity length) Bad (pick (ltb buffer length) Small Fits)
 
 -- B5, W5: the announced error (0: none), and whether the bell reads the epoch
 unfoldable pub napOf : (error : ℕ) → (same : Bool) → Nap
 napOf error same =
     pick (eqb error 0) (pick same Sleeps Returns)
-    (pick (eqb error 4 || eqb error 11) Returns (pick (eqb error 110) Late Fails))
+    (pick (eqb error 4 || eqb error 11) Returns (pick (eqb error 110) TimedOut Fails))

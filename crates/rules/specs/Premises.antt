@@ -103,8 +103,8 @@ partings side [] = 0
 partings side (h ∷ hs) = parting side h + partings side hs
 
 -- a party between calls or asleep
-abbrev pub Still : Side → World → Type 0
-Still side w = (partyIn w side .step ≡ Rest) ⊎ (partyIn w side .step ≡ Asleep)
+abbrev pub Quiet : Side → World → Type 0
+Quiet side w = (partyIn w side .step ≡ Rest) ⊎ (partyIn w side .step ≡ Asleep)
 
 -- shut down, and closed, in the region's flags
 abbrev pub down : World → Bool

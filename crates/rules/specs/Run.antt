@@ -23,7 +23,7 @@ use Rattle.types.specs.declared.Event.{Event}
 use Rattle.types.specs.declared.Event.the-variants.{Turn, Failing, Spurious, TimeOut, Push, Pop, Close, Shutdown}
 use Rattle.layout.specs.Attach.{unattached, attachAnswer, attachReply, attachLeaves}
 use Rattle.rules.specs.Next.{nextSpec}
-use Rattle.rules.specs.Turn.{taken, runBuffer}
+use Rattle.rules.specs.Turn.{taken, actBuffer}
 use Rattle.rules.specs.Bench.{partyOf, seat, played, playedLeaves}
 
 pub record Note : Type 0 where
@@ -37,7 +37,7 @@ pub record Trace : Type 0 where
   pub buffer : List ℕ
   pub hand : Note
   pub sent : List Note
-  pub got : List Note
+  pub delivered : List Note
   pub rungSender : ℕ
   pub rungRecorder : ℕ
 
@@ -65,29 +65,29 @@ takes w side payload buffer fault = taken side (w .region) (partyIn w side) payl
 
 -- a push's note is what it named and was lent at its copy turn
 abbrev pub holding : Note → Trace → Trace
-holding n t = record { buffer = t .buffer; hand = n; sent = t .sent; got = t .got; rungSender = t .rungSender; rungRecorder = t .rungRecorder }
+holding n t = record { buffer = t .buffer; hand = n; sent = t .sent; delivered = t .delivered; rungSender = t .rungSender; rungRecorder = t .rungRecorder }
 
 abbrev pub buffered : List ℕ → Trace → Trace
-buffered b t = record { buffer = b; hand = t .hand; sent = t .sent; got = t .got; rungSender = t .rungSender; rungRecorder = t .rungRecorder }
+buffered b t = record { buffer = b; hand = t .hand; sent = t .sent; delivered = t .delivered; rungSender = t .rungSender; rungRecorder = t .rungRecorder }
 
 -- it is sent as the push publishes; a pop's note is delivered as it publishes, with the length and the tag that the step
 -- carries and the first bytes of the buffer
 abbrev pub published : Side → SlotHead → Trace → Trace
-published Sender c t = record { buffer = t .buffer; hand = t .hand; sent = t .sent ++ (t .hand ∷ []); got = t .got; rungSender = t .rungSender; rungRecorder = t .rungRecorder }
+published Sender c t = record { buffer = t .buffer; hand = t .hand; sent = t .sent ++ (t .hand ∷ []); delivered = t .delivered; rungSender = t .rungSender; rungRecorder = t .rungRecorder }
 published Recorder c t =
     record {
       buffer = t .buffer;
       hand = t .hand;
       sent = t .sent;
-      got = t .got ++ (record { tag = c .tag; body = take (c .length) (t .buffer) } ∷ []);
+      delivered = t .delivered ++ (record { tag = c .tag; body = take (c .length) (t .buffer) } ∷ []);
       rungSender = t .rungSender;
       rungRecorder = t .rungRecorder;
     }
 
 -- a bell's raises are counted anew for the side that sleeps on it, and one more
 abbrev pub counted : Bell → (ℕ → ℕ) → Trace → Trace
-counted NotFull f t = record { buffer = t .buffer; hand = t .hand; sent = t .sent; got = t .got; rungSender = f (t .rungSender); rungRecorder = t .rungRecorder }
-counted NotEmpty f t = record { buffer = t .buffer; hand = t .hand; sent = t .sent; got = t .got; rungSender = t .rungSender; rungRecorder = f (t .rungRecorder) }
+counted NotFull f t = record { buffer = t .buffer; hand = t .hand; sent = t .sent; delivered = t .delivered; rungSender = f (t .rungSender); rungRecorder = t .rungRecorder }
+counted NotEmpty f t = record { buffer = t .buffer; hand = t .hand; sent = t .sent; delivered = t .delivered; rungSender = t .rungSender; rungRecorder = f (t .rungRecorder) }
 
 -- the length and the tag that a step carries
 abbrev pub carried : Step → SlotHead
@@ -129,7 +129,7 @@ traced (WakeBell b n) p payload buffer t = t
 abbrev pub turnTraced : World → Side → (payload buffer : List ℕ) → Fault → Trace
 turnTraced w side payload buffer fault =
     pick (takes w side payload buffer fault)
-    (traced (nextSpec (partyIn w side)) (partyIn w side) payload (runBuffer (w .region) (partyIn w side) buffer) (w .trace))
+    (traced (nextSpec (partyIn w side)) (partyIn w side) payload (actBuffer (w .region) (partyIn w side) buffer) (w .trace))
     (w .trace)
 
 abbrev pub traceAfter : World → Event → (payload buffer : List ℕ) → Trace
@@ -161,10 +161,10 @@ run [] w = w
 run (h ∷ hs) w = run hs (happens h w)
 
 -- a created region, nobody attached, nothing sent
-abbrev pub begin : (region : List ℕ) → World
-begin region =
+abbrev pub opened : (region : List ℕ) → World
+opened region =
     record {
       region = region;
       bench = record { sender = unattached Sender; recorder = unattached Recorder };
-      trace = record { buffer = []; hand = record { tag = 0; body = [] }; sent = []; got = []; rungSender = 0; rungRecorder = 0 };
+      trace = record { buffer = []; hand = record { tag = 0; body = [] }; sent = []; delivered = []; rungSender = 0; rungRecorder = 0 };
     }

@@ -8,13 +8,13 @@ use Rattle.types.specs.declared.Side.the-variants.{Sender, Recorder}
 use Rattle.types.specs.declared.Bell.the-variants.{NotEmpty, NotFull}
 use Rattle.types.specs.declared.Own.{Own}
 use Rattle.types.specs.declared.Room.{Room}
-use Rattle.types.specs.declared.Room.the-variants.{Corrupt, Stuck, Free}
+use Rattle.types.specs.declared.Room.the-variants.{Corrupt, Blocked, Free}
 use Rattle.types.specs.declared.Door.{Door}
 use Rattle.types.specs.declared.Door.the-variants.{Shut, Left, Open}
 use Rattle.types.specs.declared.Fit.{Fit}
-use Rattle.types.specs.declared.Fit.the-variants.{Bad, Small, Good}
+use Rattle.types.specs.declared.Fit.the-variants.{Bad, Small, Fits}
 use Rattle.types.specs.declared.Nap.{Nap}
-use Rattle.types.specs.declared.Nap.the-variants.{Sleeps, Returns, Late, Fails}
+use Rattle.types.specs.declared.Nap.the-variants.{Sleeps, Returns, TimedOut, Fails}
 use Rattle.types.specs.declared.Step.{Step}
 use Rattle.types.specs.declared.Step.the-variants.{Look, Copy, Publish, Check, Raise, Gate, GateAgain, Asleep, CloseRaise, ShutSet}
 use Rattle.types.specs.declared.Answer.{Answer}
@@ -25,25 +25,25 @@ use Rattle.layout.specs.Limits.{capacity, payloadCapacity}
 use Rattle.rules.specs.Sides.{stuckAnswer, ringBell, sleepBell, rings, waitOp, wakeOp}
 use Rattle.rules.specs.Looks.{roomOf, wasBlocked, doorOf, headLength, headTag, fitOf, napOf}
 
--- a look at the other side's counter: corruption begins a shutdown, a stuck party does what `stuck` says, else it copies
-abbrev pub roomMove : Room → (stuck : Move) → Move
-roomMove Corrupt stuck = To (ShutSet true)
-roomMove Stuck stuck = stuck
-roomMove Free stuck = To Copy
+-- a look at the other side's counter: corruption begins a shutdown, a blocked party does what `blocked` says, else it copies
+abbrev pub roomMove : Room → (blocked : Move) → Move
+roomMove Corrupt blocked = To (ShutSet true)
+roomMove Blocked blocked = blocked
+roomMove Free blocked = To Copy
 
 -- P1, C1: full or empty ends a try form
-abbrev pub stuckMove : (blocking : Bool) → Side → Move
-stuckMove blocking side = pick blocking (To Gate) (End (stuckAnswer side))
+abbrev pub blockedMove : (blocking : Bool) → Side → Move
+blockedMove blocking side = pick blocking (To Gate) (End (stuckAnswer side))
 
 unfoldable pub lookMove : Own → (counter : ℕ) → (blocking : Bool) → (their : ℕ) → Move
 lookMove own counter blocking their =
-    roomMove (roomOf (own .side) (capacity (own .power)) counter their) (stuckMove blocking (own .side))
+    roomMove (roomOf (own .side) (capacity (own .power)) counter their) (blockedMove blocking (own .side))
 
 -- P2; C2: 8, then 15
 abbrev pub fitMove : Fit → (length tag : ℕ) → Move
 fitMove Bad length tag = End CorruptSlot
 fitMove Small length tag = End (OutputTooSmall length)
-fitMove Good length tag = To (Publish length tag)
+fitMove Fits length tag = To (Publish length tag)
 
 abbrev pub copyWith : Side → (read : Move) → Move
 copyWith Sender read = To (Publish 0 0)
@@ -88,7 +88,7 @@ againMove own counter their epoch =
 abbrev pub napMove : Nap → (operation error : ℕ) → Move
 napMove Sleeps operation error = To Asleep
 napMove Returns operation error = To Look
-napMove Late operation error = End Timeout
+napMove TimedOut operation error = End Timeout
 napMove Fails operation error = End (Syscall operation error)
 
 unfoldable pub waitMove : Own → (word error epoch : ℕ) → Move

@@ -85,7 +85,7 @@ AllOwn side (h ∷ hs) = OwnDoing side h × AllOwn side hs
 abbrev pub Big : Side → World → Type 0
 Big Sender w = Unit
 Big Recorder w =
-    partyIn w Recorder .step ≡ Copy → (n : Note) (rest : List Note) → w .trace .sent ≡ w .trace .got ++ (n ∷ rest) → length (n .body) ≤ partyIn w Recorder .length
+    partyIn w Recorder .step ≡ Copy → (n : Note) (rest : List Note) → w .trace .sent ≡ w .trace .delivered ++ (n ∷ rest) → length (n .body) ≤ partyIn w Recorder .length
 
 -- the party neither closes nor shuts down, and each pop's buffer is big enough; it may try or block, its waits may fail, and
 -- what answers 20 or 253 may fall in between
@@ -124,7 +124,7 @@ inCall s = inCallAt (phase s)
 -- the notes that a side has published
 abbrev pub notesOf : Side → Trace → List Note
 notesOf Sender t = t .sent
-notesOf Recorder t = t .got
+notesOf Recorder t = t .delivered
 
 -- a pop that has yet to copy, and a party that holds an epoch
 abbrev pub beforeCopyAt : Phase → Bool
@@ -165,7 +165,7 @@ abbrev pub Underway : Side → World → Type 0
 Underway Sender w = holdsEpoch (partyIn w Sender .step) ≡ true → rung Sender w < 2 ^ 32
 Underway Recorder w =
     (holdsEpoch (partyIn w Recorder .step) ≡ true → rung Recorder w < 2 ^ 32)
-    × (beforeCopy (partyIn w Recorder .step) ≡ true → (n : Note) (rest : List Note) → w .trace .sent ≡ w .trace .got ++ (n ∷ rest) → length (n .body) ≤ partyIn w Recorder .length)
+    × (beforeCopy (partyIn w Recorder .step) ≡ true → (n : Note) (rest : List Note) → w .trace .sent ≡ w .trace .delivered ++ (n ∷ rest) → length (n .body) ≤ partyIn w Recorder .length)
 
 -- a step of a blocking call that finds no room
 abbrev pub inWaitAt : Phase → Bool

@@ -73,19 +73,19 @@ wokeOf (WaitBell b e) error = Nobody
 wokeOf (WakeBell b n) error = wokeWith (ltb 0 error) b
 
 -- a turn that goes
-unfoldable pub runSpec : List ℕ → Party → (error : ℕ) → Turned
-runSpec region p error =
+unfoldable pub actSpec : List ℕ → Party → (error : ℕ) → Turned
+actSpec region p error =
     record {
       party = takeSpec p (valueOf region (p .own) (nextSpec p)) error .party;
       answer = takeSpec p (valueOf region (p .own) (nextSpec p)) error .answer;
       woke = wokeOf (nextSpec p) error;
     }
 
-unfoldable pub runLeaves : List ℕ → Party → (payload : List ℕ) → List ℕ
-runLeaves region p payload = leavesOf region (p .own) (nextSpec p) (p .tag) payload
+unfoldable pub actLeaves : List ℕ → Party → (payload : List ℕ) → List ℕ
+actLeaves region p payload = leavesOf region (p .own) (nextSpec p) (p .tag) payload
 
-unfoldable pub runBuffer : List ℕ → Party → (buffer : List ℕ) → List ℕ
-runBuffer region p buffer = bufferOf region (p .own) (nextSpec p) (p .length) buffer
+unfoldable pub actBuffer : List ℕ → Party → (buffer : List ℕ) → List ℕ
+actBuffer region p buffer = bufferOf region (p .own) (nextSpec p) (p .length) buffer
 
 abbrev pub refused : Party → Turned
 refused p = record { party = p; answer = BadCall; woke = Nobody }
@@ -95,10 +95,10 @@ module _ (side : Side) (region : List ℕ) (p : Party) (payload buffer : List �
   taken = goes side p (length region) (length payload) (length buffer) fault
 
   unfoldable pub turnSpec : Turned
-  turnSpec = pick taken (runSpec region p (errorOf fault)) (refused p)
+  turnSpec = pick taken (actSpec region p (errorOf fault)) (refused p)
 
   unfoldable pub turnLeaves : List ℕ
-  turnLeaves = pick taken (runLeaves region p payload) region
+  turnLeaves = pick taken (actLeaves region p payload) region
 
   unfoldable pub turnBuffer : List ℕ
-  turnBuffer = pick taken (runBuffer region p buffer) buffer
+  turnBuffer = pick taken (actBuffer region p buffer) buffer

@@ -13,7 +13,7 @@ use Rattle.words.proofs.Wrapped.{minus-plus}
 use Rattle.types.specs.Answers.{firstOf}
 use Rattle.types.specs.declared.Side.{Side}
 use Rattle.types.specs.declared.Room.{Room}
-use Rattle.types.specs.declared.Room.the-variants.{Corrupt, Stuck, Free}
+use Rattle.types.specs.declared.Room.the-variants.{Corrupt, Blocked, Free}
 use Rattle.types.specs.declared.Answer.{Answer}
 use Rattle.types.specs.declared.Answer.the-variants.{Done, InvalidLayout, InvalidCapacity, InvalidSlotSize}
 use Rattle.layout.specs.Limits.{powerOk, slotOk, capacity, payloadCapacity, ringBytes, totalBytes}
@@ -96,7 +96,7 @@ holds = (
               (
                 bad 0 12 InvalidSlotSize (λ b. refl) (λ r f s. refl),
                 (
-                  found 4 4 Stuck Free (lit< tt) refl refl,
+                  found 4 4 Blocked Free (lit< tt) refl refl,
                   (
                     found 4 5 Corrupt Corrupt (lit< tt) refl refl,
                     (

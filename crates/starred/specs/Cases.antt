@@ -11,7 +11,7 @@ use Rattle.words.specs.Wrap.{plus, next}
 use Rattle.types.specs.declared.Side.{Side}
 use Rattle.types.specs.declared.Side.the-variants.{Sender, Recorder}
 use Rattle.types.specs.declared.Room.{Room}
-use Rattle.types.specs.declared.Room.the-variants.{Corrupt, Stuck, Free}
+use Rattle.types.specs.declared.Room.the-variants.{Corrupt, Blocked, Free}
 use Rattle.types.specs.declared.Answer.{Answer}
 use Rattle.types.specs.declared.Answer.the-variants.{Done, InvalidLayout, InvalidCapacity, InvalidSlotSize}
 use Rattle.layout.specs.Limits.{powerOk, slotOk, capacity, payloadCapacity, ringBytes, totalBytes}
@@ -48,7 +48,7 @@ starred =
     ∷ refused 1 12 InvalidSlotSize
     ∷ refused 1 4104 InvalidSlotSize
     ∷ refused 0 12 InvalidSlotSize
-    ∷ used 4 4 Stuck Free
+    ∷ used 4 4 Blocked Free
     ∷ used 4 5 Corrupt Corrupt
     ∷ corrupt 1 3
     ∷ place 2 32 (2 ^ 64 - 1) 480 0

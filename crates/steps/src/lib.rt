@@ -1,7 +1,7 @@
 // Where a turn of a push or a pop leads, a function a step. A party's own copy of sizes and options is `own`.
 ghost use mathlib.Core.Path.{_≡_};
 ghost use Rattle.types.specs.Pick.{pick};
-ghost use Rattle.rules.specs.Steps.{roomMove, stuckMove, lookMove, fitMove, copyWith, copyMove, publishMove, checkMove, unlessFailed, wakeMove};
+ghost use Rattle.rules.specs.Steps.{roomMove, blockedMove, lookMove, fitMove, copyWith, copyMove, publishMove, checkMove, unlessFailed, wakeMove};
 use looks::Error;
 use types::Answer;
 use types::Fit;
@@ -12,12 +12,12 @@ use types::Side;
 use types::Step;
 
 // Corruption begins a shutdown.
-pub fn room_move(room: Room, stuck: Move) -> Move
-    ensures { λ r. ⌜ r ≡ roomMove room stuck ⌝ }
+pub fn room_move(room: Room, blocked: Move) -> Move
+    ensures { λ r. ⌜ r ≡ roomMove room blocked ⌝ }
 {
     match room {
         Room::Corrupt => Move::To(Step::ShutSet(true)),
-        Room::Stuck => stuck,
+        Room::Blocked => blocked,
         Room::Free => Move::To(Step::Copy),
     }
 }
@@ -33,8 +33,8 @@ pub fn goes_or_ends(goes: bool, onward: Step, answer: Answer) -> Move
 }
 
 // Full or empty ends a try form.
-pub fn stuck_move(blocking: bool, side: Side) -> Move
-    ensures { λ r. ⌜ r ≡ stuckMove blocking side ⌝ }
+pub fn blocked_move(blocking: bool, side: Side) -> Move
+    ensures { λ r. ⌜ r ≡ blockedMove blocking side ⌝ }
 {
     let answer = sides::stuck_answer(side);
     goes_or_ends(blocking, Step::Gate, answer)
@@ -47,8 +47,8 @@ pub fn look_move(own: Own, counter: u64, blocking: bool, their: u64) -> Move
     let side = own.side;
     let capacity = sizes::capacity(own.power);
     let room = looks::room_of(side, capacity, counter, their);
-    let stuck = stuck_move(blocking, side);
-    room_move(room, stuck)
+    let blocked = blocked_move(blocking, side);
+    room_move(room, blocked)
 }
 
 // C2: 8, then 15.
@@ -58,7 +58,7 @@ pub fn fit_move(fit: Fit, length: u16, tag: u16) -> Move
     match fit {
         Fit::Bad => Move::End(Answer::CorruptSlot),
         Fit::Small => Move::End(Answer::OutputTooSmall(length)),
-        Fit::Good => Move::To(Step::Publish(length, tag)),
+        Fit::Fits => Move::To(Step::Publish(length, tag)),
     }
 }
 

@@ -3,7 +3,7 @@ ghost use mathlib.Core.Path.{_≡_};
 ghost use mathlib.Core.List.{[]};
 ghost use lib.ListN.{length};
 ghost use Rattle.rules.specs.Next.{nextSpec};
-ghost use Rattle.rules.specs.Turn.{runSpec, runLeaves, runBuffer, refused, turnSpec, turnLeaves, turnBuffer};
+ghost use Rattle.rules.specs.Turn.{actSpec, actLeaves, actBuffer, refused, turnSpec, turnLeaves, turnBuffer};
 ghost use Rattle.access.specs.Fitted.{Fitted};
 use types::Answer;
 use types::Fault;
@@ -12,11 +12,11 @@ use types::Side;
 use types::Turned;
 use types::Woke;
 
-fn run(region: &mut [u8], p: Party, payload: &[u8], buffer: &mut [u8], error: u16) -> Turned
+fn act(region: &mut [u8], p: Party, payload: &[u8], buffer: &mut [u8], error: u16) -> Turned
     requires { ⌜ Fitted (p .own) (nextSpec p) (length (now region)) (length (now payload)) (p .length) (length (now buffer)) ⌝ }
-    ensures value { λ r. ⌜ r ≡ runSpec (now (region .entry)) p error ⌝ }
-    ensures leaves { λ r. ⌜ now (region .exit) ≡ runLeaves (now (region .entry)) p (now (payload .entry)) ⌝ }
-    ensures given { λ r. ⌜ now (buffer .exit) ≡ runBuffer (now (region .entry)) p (now (buffer .entry)) ⌝ }
+    ensures value { λ r. ⌜ r ≡ actSpec (now (region .entry)) p error ⌝ }
+    ensures leaves { λ r. ⌜ now (region .exit) ≡ actLeaves (now (region .entry)) p (now (payload .entry)) ⌝ }
+    ensures given { λ r. ⌜ now (buffer .exit) ≡ actBuffer (now (region .entry)) p (now (buffer .entry)) ⌝ }
 {
     let own = p.own;
     let a = next::next(p);
@@ -59,7 +59,7 @@ pub fn turn(
     let goes = grounds::goes(side, p, region.len(), payload.len(), buffer.len(), fault);
     let error = grounds::error_of(fault);
     if goes {
-        return run(region, p, payload, buffer, error);
+        return act(region, p, payload, buffer, error);
     }
     refused(p)
 }

@@ -41,10 +41,10 @@ abbrev pub number : Answer → ℕ
 number a = toldOf a .number
 
 -- a test that must hold, and the refusal where it does not
-pub data Check : Type 0 where
-  check : Bool → Answer → Check
+pub data Test : Type 0 where
+  test : Bool → Answer → Test
 
 -- the refusal of the first test that fails, or Done
-abbrev pub firstOf : List Check → Answer
+abbrev pub firstOf : List Test → Answer
 firstOf [] = Done 0 0
-firstOf (check b a ∷ cs) = pick b (firstOf cs) a
+firstOf (test b a ∷ cs) = pick b (firstOf cs) a

@@ -126,7 +126,7 @@ pub enum Access {
 // What the counters say to a side: used above the capacity; nothing to do for it (full, or empty); something.
 pub enum Room {
     Corrupt,
-    Stuck,
+    Blocked,
     Free,
 }
 
@@ -141,14 +141,14 @@ pub enum Door {
 pub enum Fit {
     Bad,
     Small,
-    Good,
+    Fits,
 }
 
 // How a wait ends: asleep; as a spurious return; as a time-out; failed.
 pub enum Nap {
     Sleeps,
     Returns,
-    Late,
+    TimedOut,
     Fails,
 }
 

@@ -45,7 +45,7 @@ pub fn nap_move(nap: Nap, operation: u8, error: u16) -> Move
     match nap {
         Nap::Sleeps => Move::To(Step::Asleep),
         Nap::Returns => Move::To(Step::Look),
-        Nap::Late => Move::End(Answer::Timeout),
+        Nap::TimedOut => Move::End(Answer::Timeout),
         Nap::Fails => Move::End(Answer::Syscall(operation, error)),
     }
 }

@@ -5,7 +5,7 @@ use Rattle.steps.proofs.look_move.Tie as tie
 
 returns : tie.Need-returns
 unfolding lookMove
-returns c = rw (c .room-move .ensures, c .before .before .room-of .ensures, c .before .stuck-move .ensures, c .before .before .before .capacity .ensures)
+returns c = rw (c .room-move .ensures, c .before .before .room-of .ensures, c .before .blocked-move .ensures, c .before .before .before .capacity .ensures)
 
 pub look-move-spec : {M : Type 1} → statement M
 look-move-spec =

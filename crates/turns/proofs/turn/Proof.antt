@@ -6,8 +6,8 @@ use Rattle.turns.proofs.Goes.{fitted}
 use Rattle.turns.proofs.turn.Statement.{statement}
 use Rattle.turns.proofs.turn.Tie as tie
 
-run-requires : tie.Need-run-requires
-run-requires c κs =
+act-requires : tie.Need-act-requires
+act-requires c κs =
     let a = c .before .before .before .before .before .before .before .before .args in
     fitted (a .side) (a .p) (length (a .region .now)) (length (a .payload .now)) (length (a .buffer .now)) (a .fault) (sym (c .before .before .before .before .goes .ensures) ∙ c .before .before .if1 .taken)
 
@@ -15,7 +15,7 @@ returns : tie.Need-returns
 unfolding turnSpec turnLeaves turnBuffer
 returns c =
     let g = sym (c .before .before .before .before .before .before .before .before .before .goes .ensures) ∙ c .before .before .before .before .before .before .before .if1 .taken in
-    let e = c .before .before .before .before .run .ensures in
+    let e = c .before .before .before .before .act .ensures in
     (rw (g, ← c .before .before .before .before .before .before .before .before .error-of .ensures) (e .0), (rw g (e .1 .0), rw g (e .1 .1)))
 
 returns-2 : tie.Need-returns-2
@@ -30,7 +30,7 @@ turn-spec =
     (tie.spec
     (λ c κs. search needs)
     (λ c κs. search needs)
-    run-requires
+    act-requires
     (λ c. search needs)
     (λ c. search needs)
     returns

@@ -34,8 +34,8 @@ use Rattle.rules.specs.Looks.{headLength, fitOf}
 use Rattle.rules.specs.Take.{stanceOf, answerOf, stepAfter, closedAfter, counterAfter, moveOf, takeSpec}
 use Rattle.rules.specs.Next.{slotAccess, nextAt, nextSpec}
 use Rattle.rules.specs.Access.{placeOf, slotOf, valueOf, leavesOf, copiedOut, bufferOf}
-use Rattle.rules.specs.Turn.{errorOf, taken, wokeOf, runSpec, runLeaves, runBuffer, turnSpec, turnLeaves, turnBuffer}
-use Rattle.rules.specs.Given.{EndsWith, published, checked, woke, closed-alone, closed, shut, corrupt, bad-slot, too-small, full, empty, left, left-again, down, down-again, late, wake-failed, close-failed, wait-failed, shut-failed, shut-failed-last, resting, asleep, goes-on, turn}
+use Rattle.rules.specs.Turn.{errorOf, taken, wokeOf, actSpec, actLeaves, actBuffer, turnSpec, turnLeaves, turnBuffer}
+use Rattle.rules.specs.Given.{EndsWith, published, checked, woke, closed-alone, closed, shut, corrupt, bad-slot, too-small, full, empty, left, left-again, down, down-again, timed-out, wake-failed, close-failed, wait-failed, shut-failed, shut-failed-last, resting, asleep, goes-on, turn}
 use Rattle.rules.specs.Leaves.{Leaves}
 use Rattle.rules.proofs.HeadWords.{head-length}
 use Rattle.rules.proofs.Answered.{ends-only}
@@ -105,20 +105,20 @@ module _ (side : Side) (r : List ℕ) (p : Party) (i o : List ℕ) (f : Fault) (
   abbrev value : ℕ
   value = valueOf r (p .own) (nextSpec p)
 
-  pub turn-is : turnSpec side r p i o f ≡ runSpec r p (errorOf f)
+  pub turn-is : turnSpec side r p i o f ≡ actSpec r p (errorOf f)
   unfolding turnSpec
   turn-is = rw g
 
-  pub leaves-is : turnLeaves side r p i o f ≡ runLeaves r p i
+  pub leaves-is : turnLeaves side r p i o f ≡ actLeaves r p i
   unfolding turnLeaves
   leaves-is = rw g
 
-  pub buffer-is : turnBuffer side r p i o f ≡ runBuffer r p o
+  pub buffer-is : turnBuffer side r p i o f ≡ actBuffer r p o
   unfolding turnBuffer
   buffer-is = rw g
 
   pub party-is : turnSpec side r p i o f .party ≡ made p (stanceOf (p .step)) (moveOf p value (errorOf f))
-  unfolding made runSpec takeSpec
+  unfolding made actSpec takeSpec
   party-is = ap (λ (t : Turned). t .party) turn-is
 
   -- a settled turn leaves its party at rest
@@ -129,7 +129,7 @@ module _ (side : Side) (r : List ℕ) (p : Party) (i o : List ℕ) (f : Fault) (
   -- a turn that only looks keeps every byte
   looks-kept : (a : Access) → nextSpec p ≡ a → leavesOf r (p .own) a (p .tag) i ≡ r → bufferOf r (p .own) a (p .length) o ≡ o
       → (turnLeaves side r p i o f ≡ r) × (turnBuffer side r p i o f ≡ o)
-  unfolding runLeaves runBuffer
+  unfolding actLeaves actBuffer
   looks-kept a n l b = (leaves-is ∙ rw n l, buffer-is ∙ rw n b)
 
   pub next-is : (s : Step) → p .step ≡ s → nextSpec p ≡ nextAt s (p .own .side) (p .counter)
@@ -141,7 +141,7 @@ module _ (side : Side) (r : List ℕ) (p : Party) (i o : List ℕ) (f : Fault) (
   turn-still s e h m = party-is ∙ rw (e, m) h
 
   nobody : (a : Access) → nextSpec p ≡ a → wokeOf a (errorOf f) ≡ Nobody → turnSpec side r p i o f .woke ≡ Nobody
-  unfolding runSpec
+  unfolding actSpec
   nobody a n h = ap (λ (t : Turned). t .woke) turn-is ∙ rw n h
 
   -- a copy that does not fit
@@ -173,7 +173,7 @@ module _ (side : Side) (r : List ℕ) (p : Party) (i o : List ℕ) (f : Fault) (
   ends-leaves k (left-again {epoch} s d) = (looks-kept LoadFlags (next-is (GateAgain epoch) s) refl refl, turn-rests (left-again s d) refl)
   ends-leaves k (down s d) = (looks-kept LoadFlags (next-is Gate s) refl refl, turn-rests (down s d) refl)
   ends-leaves k (down-again {epoch} s d) = (looks-kept LoadFlags (next-is (GateAgain epoch) s) refl refl, turn-rests (down-again s d) refl)
-  ends-leaves k (late {epoch} s n) = (looks-kept (WaitBell (sleepBell (p .own .side)) epoch) (next-is (Wait epoch) s) refl refl, turn-rests (late s n) refl)
+  ends-leaves k (timed-out {epoch} s n) = (looks-kept (WaitBell (sleepBell (p .own .side)) epoch) (next-is (Wait epoch) s) refl refl, turn-rests (timed-out s n) refl)
   ends-leaves k (wake-failed s z) = turn-rests (wake-failed s z) refl
   ends-leaves k (close-failed s z) = turn-rests (close-failed s z) refl
   ends-leaves k (wait-failed s n) = turn-rests (wait-failed s n) refl
