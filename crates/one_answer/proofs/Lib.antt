@@ -21,6 +21,7 @@ pub mod Sizes
 pub mod Slots
 pub mod Sound
 pub mod Steps
+pub mod Sums
 pub mod Take
 pub mod Turns
 pub mod Types
