@@ -1,8 +1,8 @@
-// How an answer is reported, and how much of a payload is lent.
+// How an answer is reported, and how much of a payload or another slice is lent.
 ghost use mathlib.Core.Path.{_≡_};
 ghost use Prim.Native.Nat.{_≤_, min};
 ghost use lib.Dec.{eqb};
-ghost use lib.ListN.{length};
+ghost use lib.ListN.{length, take};
 ghost use Rattle.types.specs.Pick.{pick};
 ghost use Rattle.records.specs.Records.{recordBytes, payloadBytes, reportOf, cutReport};
 use records::Record;
@@ -21,6 +21,15 @@ pub fn lent(n: u32) -> usize
     ensures within { λ r. ⌜ r ≤ payloadBytes ⌝ }
 {
     least(n as usize, Record::PAYLOAD_BYTES)
+}
+
+// As much of a slice as is asked for, and no more than there is. What `within` says follows from `is`: it is what a caller
+// has to show of the part that it lends.
+pub fn within(asked: u32, s: &[u8]) -> usize
+    ensures is { λ r. ⌜ r ≡ min asked (length (now (s .entry))) ⌝ }
+    ensures within { λ r. ⌜ (r ≤ length (now (s .entry))) × (r ≡ length (take r (now (s .entry)))) ⌝ }
+{
+    least(asked as usize, s.len())
 }
 
 // How many bytes of a buffer a report shows: a delivered note's alone.
