@@ -1,8 +1,6 @@
 // What a record asks, done: a library does whatever document 01 has a rule for.
 use crate::Case;
-use crate::sums::mix_bytes;
-use crate::sums::mix_reply;
-use crate::within;
+use reports::within;
 use types::Answer;
 use types::Bench;
 use types::Event;
@@ -36,7 +34,6 @@ fn event_of(c: Case) -> Event {
 // A party's record with its terms as a case has them, in their limits or out.
 fn spoiled(p: Party, c: Case) -> Reply {
     let kept = p.own;
-    let step = p.step;
     let own = Own {
         side: records::side_of(c.part / 2),
         attached: c.part / 4 == 1,
@@ -44,15 +41,9 @@ fn spoiled(p: Party, c: Case) -> Reply {
         slot: c.number,
         notfull: kept.notfull,
     };
-    let party = Party {
-        own,
-        closed: p.closed,
-        counter: p.counter,
-        blocking: p.blocking,
-        tag: p.tag,
-        length: (c.value % 0x1_0000_0000) as u32,
-        step,
-    };
+    let mut party = p;
+    party.own = own;
+    party.length = (c.value % 0x1_0000_0000) as u32;
     Reply {
         party,
         answer: Answer::Done(0, 0),
@@ -75,7 +66,7 @@ fn try_value(region: &mut [u8], c: Case, x: u8, sum: u32) -> u32 {
     put(region, FLAGS, 1, c.value);
     put(region, c.number, 1, x as u64);
     let reply = attach::attach(region, records::side_of(c.part));
-    mix_bytes(mix_reply(sum, reply), region)
+    sums::came_sum(sum, reply, region)
 }
 
 // An attach for each value of one byte. What came of all of them is told as the two halves of their sum.
@@ -116,24 +107,23 @@ fn reply_of(region: &mut [u8], p: Party, c: Case) -> Reply {
 
 fn replied(region: &mut [u8], both: Bench, c: Case) -> Played {
     let side = records::side_of(c.part);
-    let r = within(c.region, region);
     let p = seats::party_of(both, side);
-    let reply = reply_of(&mut region[..r], p, c);
+    let reply = reply_of(region, p, c);
     seats::settled(both, side, reply)
 }
 
 // The sender is lent of the payload, the recorder of the buffer.
 fn happened(region: &mut [u8], payload: &[u8], buffer: &mut [u8], both: Bench, c: Case) -> Played {
-    let r = within(c.region, region);
     let p = within(c.lent, payload);
     let b = within(c.lent, buffer);
-    bench::play(
-        &mut region[..r],
-        both,
-        event_of(c),
-        &payload[..p],
-        &mut buffer[..b],
-    )
+    bench::play(region, both, event_of(c), &payload[..p], &mut buffer[..b])
+}
+
+fn acted(region: &mut [u8], payload: &[u8], buffer: &mut [u8], both: Bench, c: Case) -> Played {
+    if c.kind < 8 {
+        return happened(region, payload, buffer, both, c);
+    }
+    replied(region, both, c)
 }
 
 pub(crate) fn act(
@@ -143,8 +133,6 @@ pub(crate) fn act(
     both: Bench,
     c: Case,
 ) -> Played {
-    if c.kind < 8 {
-        return happened(region, payload, buffer, both, c);
-    }
-    replied(region, both, c)
+    let r = within(c.region, region);
+    acted(&mut region[..r], payload, buffer, both, c)
 }

@@ -1,11 +1,8 @@
 // Plays case records from standard input, and writes a report for each to standard output: regions of many sizes and
 // starts, regions damaged between turns, records out of their limits. The rules are the libraries': here a record is
 // taken apart, a library is called, and what came of it is summed up.
-ghost use Prim.Native.Nat.{_+_, _≤_};
-ghost use Rattle.io.specs.Counts.{Counts};
 
 mod acts;
-mod sums;
 
 use libc::STDERR_FILENO;
 use libc::STDIN_FILENO;
@@ -38,14 +35,6 @@ struct Case {
     value: u64,
     region: u32,
     lent: u32,
-}
-
-// As much of a slice as is asked for, and no more than there is.
-fn within(length: u32, s: &[u8]) -> usize
-    ensures { λ r. ⌜ Counts r (now (s .entry)) ⌝ }
-    ensures { λ r. ⌜ r ≤ length ⌝ }
-{
-    reports::least(length as usize, s.len())
 }
 
 fn case_of(got: usize, head: u64, value: u64, sizes: u64) -> Case {
@@ -93,8 +82,8 @@ fn tell(answer: u64, sender: u64, recorder: u64, bytes: u64) -> bool {
 }
 
 fn bytes_word(region: &[u8], buffer: &[u8], length: u32) -> u64 {
-    let r = within(length, region);
-    sums::pair(sums::mix_bytes(0, &region[..r]), sums::mix_bytes(0, buffer))
+    let r = reports::within(length, region);
+    sums::bytes_word(&region[..r], buffer)
 }
 
 fn tell_all(kind: u8, answer: Answer, both: Bench, bytes: u64) -> bool {
