@@ -119,13 +119,6 @@ fn happened(region: &mut [u8], payload: &[u8], buffer: &mut [u8], both: Bench, c
     bench::play(region, both, event_of(c), &payload[..p], &mut buffer[..b])
 }
 
-fn acted(region: &mut [u8], payload: &[u8], buffer: &mut [u8], both: Bench, c: Case) -> Played {
-    if c.kind < 8 {
-        return happened(region, payload, buffer, both, c);
-    }
-    replied(region, both, c)
-}
-
 pub(crate) fn act(
     region: &mut [u8],
     payload: &[u8],
@@ -133,6 +126,8 @@ pub(crate) fn act(
     both: Bench,
     c: Case,
 ) -> Played {
-    let r = within(c.region, region);
-    acted(&mut region[..r], payload, buffer, both, c)
+    if c.kind < 8 {
+        return happened(region, payload, buffer, both, c);
+    }
+    replied(region, both, c)
 }

@@ -81,11 +81,6 @@ fn tell(answer: u64, sender: u64, recorder: u64, bytes: u64) -> bool {
     told
 }
 
-fn bytes_word(region: &[u8], buffer: &[u8], length: u32) -> u64 {
-    let r = reports::within(length, region);
-    sums::bytes_word(&region[..r], buffer)
-}
-
 fn tell_all(kind: u8, answer: Answer, both: Bench, bytes: u64) -> bool {
     let sender = both.sender;
     let recorder = both.recorder;
@@ -133,8 +128,9 @@ fn main() {
     while reads < READS {
         let c = read_case();
         let mut buffer = io::buffer();
-        s = acts::act(&mut region, &payload, &mut buffer, s.bench, c);
-        if !report(c, s, bytes_word(&region, &buffer, c.region)) {
+        let r = reports::within(c.region, &region);
+        s = acts::act(&mut region[..r], &payload, &mut buffer, s.bench, c);
+        if !report(c, s, sums::bytes_word(&region[..r], &buffer)) {
             return;
         }
         reads += 1;
