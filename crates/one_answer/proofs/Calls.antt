@@ -3,9 +3,6 @@ use mathlib.Core.Path.{refl, sym, _∙_}
 use Rattle.one_answer.specs.OneAnswer.{OneAnswer}
 use Rattle.calls.proofs as code
 
-pub at : OneAnswer code.at.Kinds.ps code.at.Kinds.r code.at.Reads.Post
-at κs a z z′ ws ws′ p q = (p ∙ sym q, refl)
-
 pub begin-push : OneAnswer code.begin_push.Kinds.ps code.begin_push.Kinds.r code.begin_push.Reads.Post
 begin-push κs a z z′ ws ws′ p q = (p ∙ sym q, refl)
 

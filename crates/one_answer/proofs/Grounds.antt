@@ -8,9 +8,3 @@ error-of κs a z z′ ws ws′ p q = (p ∙ sym q, refl)
 
 pub goes : OneAnswer code.goes.Kinds.ps code.goes.Kinds.r code.goes.Reads.Post
 goes κs a z z′ ws ws′ p q = (p ∙ sym q, refl)
-
-pub woke-of : OneAnswer code.woke_of.Kinds.ps code.woke_of.Kinds.r code.woke_of.Reads.Post
-woke-of κs a z z′ ws ws′ p q = (p ∙ sym q, refl)
-
-pub wakened : OneAnswer code.wakened.Kinds.ps code.wakened.Kinds.r code.wakened.Reads.Post
-wakened κs a z z′ ws ws′ p q = (p ∙ sym q, refl)

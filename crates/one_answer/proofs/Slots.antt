@@ -14,9 +14,3 @@ read-payload κs a z z′ ws ws′ p q = (refl, ap (λ v. (tt, (tt, (v, tt)))) (
 
 pub payload-at : OneAnswer code.payload_at.Kinds.ps code.payload_at.Kinds.r code.payload_at.Reads.Post
 payload-at κs a z z′ ws ws′ p q = (refl, ap (λ v. (tt, (tt, (tt, (tt, (v, tt)))))) (p ∙ sym q))
-
-pub write : OneAnswer code.write.Kinds.ps code.write.Kinds.r code.write.Reads.Post
-write κs a z z′ ws ws′ p q = (refl, ap (λ v. (v, (tt, (tt, tt)))) (p ∙ sym q))
-
-pub write-at : OneAnswer code.write_at.Kinds.ps code.write_at.Kinds.r code.write_at.Reads.Post
-write-at κs a z z′ ws ws′ p q = (refl, ap (λ v. (v, (tt, (tt, (tt, (tt, tt)))))) (p ∙ sym q))

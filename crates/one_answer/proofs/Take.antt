@@ -3,9 +3,6 @@ use mathlib.Core.Path.{refl, sym, _∙_}
 use Rattle.one_answer.specs.OneAnswer.{OneAnswer}
 use Rattle.take.proofs as code
 
-pub move-at : OneAnswer code.move_at.Kinds.ps code.move_at.Kinds.r code.move_at.Reads.Post
-move-at κs a z z′ ws ws′ p q = (p ∙ sym q, refl)
-
 pub step-after : OneAnswer code.step_after.Kinds.ps code.step_after.Kinds.r code.step_after.Reads.Post
 step-after κs a z z′ ws ws′ p q = (p ∙ sym q, refl)
 

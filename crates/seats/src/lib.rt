@@ -53,7 +53,7 @@ pub fn turned(b: Bench, side: Side, t: Turned) -> Played
     let woke = t.woke;
     let them = sides::other(side);
     let sleeper = party_of(b, them);
-    let heard = grounds::wakened(them, sleeper, woke);
+    let heard = wakes::wakened(them, sleeper, woke);
     let moved = seat(b, side, party);
     let bench = seat(moved, them, heard);
     Played { bench, answer }

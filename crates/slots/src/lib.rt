@@ -1,10 +1,10 @@
-// A slot of the ring: a part of the region that starts in its middle.
+// A slot of the ring, read: a part of the region that starts in its middle.
 ghost use mathlib.Core.Path.{_≡_};
-ghost use Prim.Native.Nat.{_+_, _^_, _<_, _≤_};
+ghost use Prim.Native.Nat.{_+_, _≤_};
 ghost use lib.ListN.{length};
 ghost use Rattle.words.specs.Bytes.{part};
 ghost use Rattle.layout.specs.Limits.{slotHeadBytes};
-ghost use Rattle.layout.specs.Slots.{headOf, slotPut, bufferPut};
+ghost use Rattle.layout.specs.Slots.{headOf, bufferPut};
 use types::SlotHead;
 
 // Where the fields of a slot lie, from its start on.
@@ -54,24 +54,4 @@ pub fn payload_at(region: &[u8], at: usize, size: usize, count: usize, buffer: &
     ensures { λ _. ⌜ now (buffer .exit) ≡ bufferPut (now (buffer .entry)) (part (now (region .entry)) at size) count ⌝ }
 {
     read_payload(&region[at..at + size], count, buffer);
-}
-
-// Writes a slot: nothing behind the payload.
-pub fn write(slot: &mut [u8], tag: u16, payload: &[u8])
-    requires { ⌜ (slotHeadBytes + length (now payload) ≤ length (now slot)) × (length (now payload) < 2 ^ 16) ⌝ }
-    ensures { λ _. ⌜ now (slot .exit) ≡ slotPut (now (slot .entry)) 0 tag (now (payload .entry)) ⌝ }
-{
-    words::store16(slot, Slot::LENGTH, payload.len() as u16);
-    words::store16(slot, Slot::TAG, tag);
-    words::store16(slot, Slot::FLAGS, 0);
-    words::store16(slot, Slot::ZERO, 0);
-    runs::copy_in(slot, Slot::PAYLOAD, payload);
-}
-
-// The same of the slot of size bytes at at.
-pub fn write_at(region: &mut [u8], at: usize, size: usize, tag: u16, payload: &[u8])
-    requires { ⌜ (slotHeadBytes + length (now payload) ≤ size) × (length (now payload) < 2 ^ 16) × (at + size ≤ length (now region)) ⌝ }
-    ensures { λ _. ⌜ now (region .exit) ≡ slotPut (now (region .entry)) at tag (now (payload .entry)) ⌝ }
-{
-    write(&mut region[at..at + size], tag, payload);
 }

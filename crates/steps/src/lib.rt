@@ -46,7 +46,7 @@ pub fn look_move(own: Own, counter: u64, blocking: bool, their: u64) -> Move
 {
     let side = own.side;
     let capacity = sizes::capacity(own.power);
-    let room = looks::room_of(side, capacity, counter, their);
+    let room = rooms::room_of(side, capacity, counter, their);
     let blocked = blocked_move(blocking, side);
     room_move(room, blocked)
 }
@@ -100,7 +100,7 @@ pub fn check_move(own: Own, counter: u64, their: u64, length: u16, tag: u16) -> 
 {
     let side = own.side;
     let capacity = sizes::capacity(own.power);
-    let blocked = looks::was_blocked(side, capacity, counter, their);
+    let blocked = rooms::was_blocked(side, capacity, counter, their);
     goes_or_ends(blocked, Step::Raise(length, tag), Answer::Done(length, tag))
 }
 

@@ -1,50 +1,12 @@
 // What becomes of a party when its turn's one access gave back a value, or was announced to fail. The region is not touched.
 ghost use mathlib.Core.Path.{_≡_};
-ghost use Rattle.rules.specs.Take.{moveAt, stepAfter, answerOf, counterAfter, closedAfter, takeSpec};
+ghost use Rattle.rules.specs.Take.{stepAfter, answerOf, counterAfter, closedAfter, takeSpec};
 use types::Answer;
 use types::Move;
-use types::Own;
 use types::Party;
 use types::Reply;
 use types::Stance;
 use types::Step;
-
-// Where a turn at the step leads. An error is announced where a futex call fails, and is 0 otherwise.
-pub fn move_at(
-    step: Step,
-    own: Own,
-    counter: u64,
-    blocking: bool,
-    length: u32,
-    value: u64,
-    error: u16,
-) -> Move
-    ensures { λ r. ⌜ r ≡ moveAt step own counter blocking length value error ⌝ }
-{
-    match step {
-        Step::Rest => Move::Still,
-        Step::Look => steps::look_move(own, counter, blocking, value),
-        Step::Copy => steps::copy_move(own, length, value),
-        Step::Publish(len, tag) => steps::publish_move(own, len, tag),
-        Step::Check(len, tag) => steps::check_move(own, counter, value, len, tag),
-        Step::Raise(len, tag) => Move::To(Step::Wake(len, tag)),
-        Step::Wake(len, tag) => steps::wake_move(own, error, len, tag),
-        Step::Gate => waits::gate_move(own, value, Step::Epoch),
-        Step::Epoch => Move::To(Step::Again((value % 0x1_0000_0000) as u32)),
-        Step::Again(epoch) => waits::again_move(own, counter, value, epoch),
-        Step::GateAgain(epoch) => waits::gate_move(own, value, Step::Wait(epoch)),
-        Step::Wait(epoch) => waits::wait_move(own, value, error, epoch),
-        Step::Asleep => Move::Still,
-        Step::CloseSet => waits::close_move(own),
-        Step::CloseRaise => Move::To(Step::CloseWake),
-        Step::CloseWake => steps::wake_move(own, error, 0, 0),
-        Step::ShutSet(corrupt) => Move::To(Step::ShutRaiseNe(corrupt)),
-        Step::ShutRaiseNe(corrupt) => Move::To(Step::ShutWakeNe(corrupt)),
-        Step::ShutWakeNe(corrupt) => Move::To(Step::ShutRaiseNf(corrupt, error)),
-        Step::ShutRaiseNf(corrupt, first) => Move::To(Step::ShutWakeNf(corrupt, first)),
-        Step::ShutWakeNf(corrupt, first) => waits::shut_move(corrupt, first, error),
-    }
-}
 
 pub fn step_after(moved: Move, step: Step) -> Step
     ensures { λ r. ⌜ r ≡ stepAfter moved step ⌝ }
@@ -99,7 +61,7 @@ pub fn take(p: Party, value: u64, error: u16) -> Reply
 {
     let own = p.own;
     let step = p.step;
-    let moved = move_at(step, own, p.counter, p.blocking, p.length, value, error);
+    let moved = moves::move_at(step, own, p.counter, p.blocking, p.length, value, error);
     let stance = sound::stance_of(step);
     let closed = closed_after(stance, p.closed);
     let counter = counter_after(stance, p.counter);

@@ -1,36 +1,13 @@
-// A turn over a lent region: the party's next access, that access, and what becomes of the party.
+// A turn over a lent region: what is refused is tested, and else the party acts.
 ghost use mathlib.Core.Path.{_≡_};
 ghost use mathlib.Core.List.{[]};
-ghost use lib.ListN.{length};
-ghost use Rattle.rules.specs.Next.{nextSpec};
-ghost use Rattle.rules.specs.Turn.{actSpec, actLeaves, actBuffer, refused, turnSpec, turnLeaves, turnBuffer};
-ghost use Rattle.access.specs.Fitted.{Fitted};
+ghost use Rattle.rules.specs.Turn.{refused, turnSpec, turnLeaves, turnBuffer};
 use types::Answer;
 use types::Fault;
 use types::Party;
 use types::Side;
 use types::Turned;
 use types::Woke;
-
-fn act(region: &mut [u8], p: Party, payload: &[u8], buffer: &mut [u8], error: u16) -> Turned
-    requires { ⌜ Fitted (p .own) (nextSpec p) (length (now region)) (length (now payload)) (p .length) (length (now buffer)) ⌝ }
-    ensures value { λ r. ⌜ r ≡ actSpec (now (region .entry)) p error ⌝ }
-    ensures leaves { λ r. ⌜ now (region .exit) ≡ actLeaves (now (region .entry)) p (now (payload .entry)) ⌝ }
-    ensures given { λ r. ⌜ now (buffer .exit) ≡ actBuffer (now (region .entry)) p (now (buffer .entry)) ⌝ }
-{
-    let own = p.own;
-    let a = next::next(p);
-    let value = access::perform(region, own, a, p.tag, payload, p.length, buffer);
-    let reply = take::take(p, value, error);
-    let woke = grounds::woke_of(a, error);
-    let party = reply.party;
-    let answer = reply.answer;
-    Turned {
-        party,
-        answer,
-        woke,
-    }
-}
 
 fn refused(p: Party) -> Turned
     ensures { λ r. ⌜ r ≡ refused p ⌝ }
@@ -59,7 +36,7 @@ pub fn turn(
     let goes = grounds::goes(side, p, region.len(), payload.len(), buffer.len(), fault);
     let error = grounds::error_of(fault);
     if goes {
-        return act(region, p, payload, buffer, error);
+        return acts::act(region, p, payload, buffer, error);
     }
     refused(p)
 }

@@ -35,7 +35,7 @@ pub fn again_move(own: Own, counter: u64, their: u64, epoch: u32) -> Move
 {
     let side = own.side;
     let capacity = sizes::capacity(own.power);
-    let room = looks::room_of(side, capacity, counter, their);
+    let room = rooms::room_of(side, capacity, counter, their);
     steps::room_move(room, Move::To(Step::GateAgain(epoch)))
 }
 
