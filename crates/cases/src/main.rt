@@ -2,7 +2,7 @@
 // starts, regions damaged between turns, records out of their limits. The rules are the libraries': here a record is
 // taken apart, a library is called, and what came of it is summed up.
 
-mod acts;
+mod kinds;
 
 use libc::STDERR_FILENO;
 use libc::STDIN_FILENO;
@@ -124,12 +124,12 @@ fn main() {
     let mut payload = io::buffer();
     let mut s = opened();
     let mut reads: u64 = 0;
-    acts::put(&mut payload, 0, ROOM, 0x4847_4645_4443_4241);
+    kinds::put(&mut payload, 0, ROOM, 0x4847_4645_4443_4241);
     while reads < READS {
         let c = read_case();
         let mut buffer = io::buffer();
         let r = reports::within(c.region, &region);
-        s = acts::act(&mut region[..r], &payload, &mut buffer, s.bench, c);
+        s = kinds::play_case(&mut region[..r], &payload, &mut buffer, s.bench, c);
         if !report(c, s, sums::bytes_word(&region[..r], &buffer)) {
             return;
         }

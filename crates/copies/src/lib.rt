@@ -27,7 +27,7 @@ pub fn write_slot(region: &mut [u8], own: Own, count: u64, tag: u16, payload: &[
 {
     let at = place(own, count);
     let size = own.slot as usize;
-    writes::write_at(region, at, size, tag, payload);
+    fills::write_at(region, at, size, tag, payload);
 }
 
 // The payload of the slot of size bytes at at, where it fits.

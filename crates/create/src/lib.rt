@@ -34,6 +34,6 @@ pub fn create(region: &mut [u8], power: u8, slot: u32, notfull: bool, start: u64
     }
     let ring = sizes::ring_bytes(power, slot);
     let flags = first_flags(notfull);
-    fresh::write_header(region, ring, power, slot, flags, start);
+    headed::write_header(region, ring, power, slot, flags, start);
     Answer::Done(0, 0)
 }

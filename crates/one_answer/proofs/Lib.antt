@@ -6,7 +6,7 @@ pub mod Replies
 pub mod Calls
 pub mod Checks
 pub mod Copies
-pub mod Fresh
+pub mod Headed
 pub mod Create
 pub mod Wakes
 pub mod Grounds
@@ -24,7 +24,7 @@ pub mod Script
 pub mod Seats
 pub mod Sides
 pub mod Sizes
-pub mod Writes
+pub mod Fills
 pub mod Slots
 pub mod Sound
 pub mod Steps

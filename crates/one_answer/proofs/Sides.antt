@@ -15,8 +15,8 @@ used κs a z z′ ws ws′ p q = (p ∙ sym q, refl)
 pub limit : OneAnswer code.limit.Kinds.ps code.limit.Kinds.r code.limit.Reads.Post
 limit κs a z z′ ws ws′ p q = (p ∙ sym q, refl)
 
-pub stuck-answer : OneAnswer code.stuck_answer.Kinds.ps code.stuck_answer.Kinds.r code.stuck_answer.Reads.Post
-stuck-answer κs a z z′ ws ws′ p q = (p ∙ sym q, refl)
+pub blocked-answer : OneAnswer code.blocked_answer.Kinds.ps code.blocked_answer.Kinds.r code.blocked_answer.Reads.Post
+blocked-answer κs a z z′ ws ws′ p q = (p ∙ sym q, refl)
 
 pub ring-bell : OneAnswer code.ring_bell.Kinds.ps code.ring_bell.Kinds.r code.ring_bell.Reads.Post
 ring-bell κs a z z′ ws ws′ p q = (p ∙ sym q, refl)

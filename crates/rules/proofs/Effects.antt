@@ -103,8 +103,8 @@ module _ (p : Party) (payload buffer : List ℕ) (t : Trace) where
     sent-more : length (t .sent ++ (t .hand ∷ [])) ≡ length (t .sent) + 1
     sent-more = length-more (t .sent) (t .hand)
 
-    got-more : (n : _) → length (t .delivered ++ (n ∷ [])) ≡ length (t .delivered) + 1
-    got-more n = length-more (t .delivered) n
+    delivered-more : (n : _) → length (t .delivered ++ (n ∷ [])) ≡ length (t .delivered) + 1
+    delivered-more n = length-more (t .delivered) n
 
     pub room-own-is : (side : Side) (s : Step) → HasRoom (phase s) (roomIn P S v on side t) → roomIn P S v on side (told s side) ≡ ownRoom s (roomIn P S v on side t)
     room-own-is Sender Rest h = refl
@@ -131,7 +131,7 @@ module _ (p : Party) (payload buffer : List ℕ) (t : Trace) where
     room-own-is Recorder Rest h = refl
     room-own-is Recorder Look h = refl
     room-own-is Recorder Copy h = refl
-    room-own-is Recorder (Publish l g) h = rw (got-more (record { tag = carried (p .step) .tag; body = take (carried (p .step) .length) (t .buffer) }), less-is) (omega arith)
+    room-own-is Recorder (Publish l g) h = rw (delivered-more (record { tag = carried (p .step) .tag; body = take (carried (p .step) .length) (t .buffer) }), less-is) (omega arith)
     room-own-is Recorder (Check l g) h = refl
     room-own-is Recorder (Raise l g) h = refl
     room-own-is Recorder (Wake l g) h = refl
@@ -175,7 +175,7 @@ module _ (p : Party) (payload buffer : List ℕ) (t : Trace) where
     room-other-is Recorder Rest h = refl
     room-other-is Recorder Look h = refl
     room-other-is Recorder Copy h = refl
-    room-other-is Recorder (Publish l g) h = rw (got-more (record { tag = carried (p .step) .tag; body = take (carried (p .step) .length) (t .buffer) })) (omega (arith, queue .above))
+    room-other-is Recorder (Publish l g) h = rw (delivered-more (record { tag = carried (p .step) .tag; body = take (carried (p .step) .length) (t .buffer) })) (omega (arith, queue .above))
     room-other-is Recorder (Check l g) h = refl
     room-other-is Recorder (Raise l g) h = refl
     room-other-is Recorder (Wake l g) h = refl

@@ -136,7 +136,7 @@ module _ (region : List ℕ) (power slot : ℕ) (notfull : Bool) (start : ℕ) w
   abbrev pub Bounded : Side → Type 0
   Bounded side = (hs ms : List Happening) → Alone side hs ms → Emptied side hs ms
 
-  -- either way a recorder has then delivered every note that was sent
+  -- either way every note that was sent has then been delivered
   abbrev pub GetsAll : Type 0
   GetsAll = (hs ms : List Happening) → AllTyped (hs ++ ms) → Emptied Recorder hs ms → reached (hs ++ ms) .trace .delivered ≡ reached hs .trace .sent
 

@@ -27,9 +27,9 @@ limit Sender capacity = capacity
 limit Recorder capacity = 0
 
 -- what a try form answers then
-abbrev pub stuckAnswer : Side → Answer
-stuckAnswer Sender = Full
-stuckAnswer Recorder = Empty
+abbrev pub blockedAnswer : Side → Answer
+blockedAnswer Sender = Full
+blockedAnswer Recorder = Empty
 
 -- the bell that a side raises for the other, and the one that it sleeps on
 abbrev pub ringBell : Side → Bell

@@ -22,7 +22,7 @@ use Rattle.types.specs.declared.Answer.the-variants.{Done, CorruptIndices, Corr
 use Rattle.types.specs.declared.Move.{Move}
 use Rattle.types.specs.declared.Move.the-variants.{To, End}
 use Rattle.layout.specs.Limits.{capacity, payloadCapacity}
-use Rattle.rules.specs.Sides.{stuckAnswer, ringBell, sleepBell, rings, waitOp, wakeOp}
+use Rattle.rules.specs.Sides.{blockedAnswer, ringBell, sleepBell, rings, waitOp, wakeOp}
 use Rattle.rules.specs.Looks.{roomOf, wasBlocked, doorOf, headLength, headTag, fitOf, napOf}
 
 -- a look at the other side's counter: corruption begins a shutdown, a blocked party does what `blocked` says, else it copies
@@ -33,7 +33,7 @@ roomMove Free blocked = To Copy
 
 -- P1, C1: full or empty ends a try form
 abbrev pub blockedMove : (blocking : Bool) → Side → Move
-blockedMove blocking side = pick blocking (To Gate) (End (stuckAnswer side))
+blockedMove blocking side = pick blocking (To Gate) (End (blockedAnswer side))
 
 unfoldable pub lookMove : Own → (counter : ℕ) → (blocking : Bool) → (their : ℕ) → Move
 lookMove own counter blocking their =

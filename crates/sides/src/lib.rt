@@ -1,6 +1,6 @@
 // What differs by the side.
 ghost use mathlib.Core.Path.{_≡_};
-ghost use Rattle.rules.specs.Sides.{other, sameSide, used, limit, stuckAnswer, ringBell, sleepBell, rings, waitOp, wakeOp};
+ghost use Rattle.rules.specs.Sides.{other, sameSide, used, limit, blockedAnswer, ringBell, sleepBell, rings, waitOp, wakeOp};
 use types::Answer;
 use types::Bell;
 use types::Side;
@@ -49,8 +49,8 @@ pub fn limit(side: Side, capacity: u64) -> u64
     }
 }
 
-pub fn stuck_answer(side: Side) -> Answer
-    ensures { λ r. ⌜ r ≡ stuckAnswer side ⌝ }
+pub fn blocked_answer(side: Side) -> Answer
+    ensures { λ r. ⌜ r ≡ blockedAnswer side ⌝ }
 {
     match side {
         Side::Sender => Answer::Full,

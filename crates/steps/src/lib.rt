@@ -36,7 +36,7 @@ pub fn goes_or_ends(goes: bool, onward: Step, answer: Answer) -> Move
 pub fn blocked_move(blocking: bool, side: Side) -> Move
     ensures { λ r. ⌜ r ≡ blockedMove blocking side ⌝ }
 {
-    let answer = sides::stuck_answer(side);
+    let answer = sides::blocked_answer(side);
     goes_or_ends(blocking, Step::Gate, answer)
 }
 

@@ -3,7 +3,7 @@ use Rattle.steps.proofs.blocked_move.Statement.{statement}
 use Rattle.steps.proofs.blocked_move.Tie as tie
 
 returns : tie.Need-returns
-returns c = rw (c .goes-or-ends .ensures, c .before .stuck-answer .ensures)
+returns c = rw (c .goes-or-ends .ensures, c .before .blocked-answer .ensures)
 
 pub blocked-move-spec : {M : Type 1} → statement M
 blocked-move-spec =
