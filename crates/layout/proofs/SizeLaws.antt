@@ -12,16 +12,9 @@ use lib.Dec.{leb, eqb}
 use lib.Pow.{pow-mono}
 use Rattle.types.specs.Pick.{pick}
 use Rattle.words.proofs.Sets.{Apart}
+use Rattle.words.proofs.Runs.{and-left, and-right}
 use Rattle.layout.specs.Limits.{leastPower, mostPower, leastSlot, mostSlot, slotStep, headerBytes, powerOk, slotOk, capacity, ringBytes, totalBytes}
 use Rattle.layout.specs.Slots.{slotAt}
-
-and-left : (a b : Bool) → (a && b) ≡ true → a ≡ true
-and-left true b e = refl
-and-left false b e = e
-
-and-right : (a b : Bool) → (a && b) ≡ true → b ≡ true
-and-right true b e = e
-and-right false b e = let z : _≡_ {A = ℕ} 0 1 = cc in absurd (omega arith)
 
 room-by : (power : ℕ) (b : Bool) → leb power mostPower ≡ b → pick b (2 ^ power) 0 ≤ 2 ^ 30
 room-by power true e = pow-mono {j = 30} (omega (arith, leb-true power mostPower e))

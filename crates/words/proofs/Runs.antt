@@ -1,11 +1,11 @@
 -- Tests of a run of bytes: what they say of each byte of it, and how a run splits.
-use mathlib.Core.Path.{_≡_, refl, sym, ap₂, _∙_}
+use mathlib.Core.Path.{_≡_, refl, sym, _∙_}
 use mathlib.Core.Bool.{Bool, true, false, _&&_, and-assoc, and-false}
 use mathlib.Core.List.{List, [], _∷_, _++_}
 use Prim.Native.Nat.{ℕ, zero, suc, _+_, _<_}
 use native.Mathlib.Omega.{arith}
 use native.Mathlib.Nat.{add-zero, add-suc, suc-add}
-use borrow.Author.Tests.{eq-eqb, ne-eqb, eqb-true}
+use borrow.Author.Tests.{eq-eqb, ne-eqb}
 use lib.Dec.{eqb}
 use lib.ListN.{length, getD, replicate, length-replicate, getD-replicate, replicate-append-replicate}
 use Rattle.words.specs.Bytes.{zeros, bytesAre}
@@ -31,13 +31,6 @@ bytesAre-true s i (b ∷ t) h =
     rw (eq-eqb (getD s i 0) b (rw add-zero at (h 0 (omega arith))))
     (bytesAre-true s (suc i) t (λ k l. step s i k ∙ h (suc k) (omega arith)))
 
-pub bytesAre-each : (s : List ℕ) (i : ℕ) (t : List ℕ) → bytesAre s i t ≡ true → (k : ℕ) → k < length t → getD s (i + k) 0 ≡ getD t k 0
-unfolding bytesAre
-bytesAre-each s i [] e k h = absurd (omega arith)
-bytesAre-each s i (b ∷ t) e zero h = rw add-zero (eqb-true (getD s i 0) b (and-left (eqb (getD s i 0) b) (bytesAre s (suc i) t) e))
-bytesAre-each s i (b ∷ t) e (suc k) h =
-    sym (step s i k) ∙ bytesAre-each s (suc i) t (and-right (eqb (getD s i 0) b) (bytesAre s (suc i) t) e) k (omega arith)
-
 -- a run with a byte that does not
 pub bytesAre-false : (s : List ℕ) (i : ℕ) (t : List ℕ) (k : ℕ) → k < length t → (getD s (i + k) 0 ≡ getD t k 0 → ⊥) → bytesAre s i t ≡ false
 unfolding bytesAre
@@ -53,15 +46,6 @@ bytesAre-split s i [] u = rw add-zero
 bytesAre-split s i (b ∷ t) u =
     rw (bytesAre-split s (suc i) t u, suc-add, ← add-suc) (sym (and-assoc (eqb (getD s i 0) b) (bytesAre s (suc i) t) (bytesAre s (i + suc (length t)) u)))
 
--- lists that agree on the run
-pub bytesAre-ext : (s r : List ℕ) (i j : ℕ) (t : List ℕ) → ((k : ℕ) → k < length t → getD s (i + k) 0 ≡ getD r (j + k) 0) → bytesAre s i t ≡ bytesAre r j t
-unfolding bytesAre
-bytesAre-ext s r i j [] h = refl
-bytesAre-ext s r i j (b ∷ t) h =
-    ap₂ (λ (x : ℕ) (y : Bool). eqb x b && y)
-    (rw (add-zero, add-zero) at (h 0 (omega arith)))
-    (bytesAre-ext s r (suc i) (suc j) t (λ k l. step s i k ∙ h (suc k) (omega arith) ∙ sym (step r j k)))
-
 -- a run of zeros is a run of bytes like any other, so the laws of zeros are those of bytesAre
 zeros-are : (s : List ℕ) (n i : ℕ) → zeros s n i ≡ bytesAre s i (replicate n 0)
 unfolding zeros bytesAre
@@ -75,10 +59,6 @@ pub zeros-true : (s : List ℕ) (n i : ℕ) → ((k : ℕ) → k < n → getD s 
 zeros-true s n i h =
     zeros-are s n i ∙ bytesAre-true s i (replicate n 0) (λ k l. h k (in-run n k l) ∙ sym (getD-replicate n k 0 0 (in-run n k l)))
 
-pub zeros-each : (s : List ℕ) (n i : ℕ) → zeros s n i ≡ true → (k : ℕ) → k < n → getD s (i + k) 0 ≡ 0
-zeros-each s n i e k h =
-    bytesAre-each s i (replicate n 0) (sym (zeros-are s n i) ∙ e) k (rw length-replicate h) ∙ getD-replicate n k 0 0 h
-
 pub zeros-false : (s : List ℕ) (n i k : ℕ) → k < n → (getD s (i + k) 0 ≡ 0 → ⊥) → zeros s n i ≡ false
 zeros-false s n i k h f =
     zeros-are s n i ∙ bytesAre-false s i (replicate n 0) k (rw length-replicate h) (λ e. f (e ∙ getD-replicate n k 0 0 h))
@@ -86,7 +66,3 @@ zeros-false s n i k h f =
 pub zeros-split : (s : List ℕ) (m n i : ℕ) → zeros s (m + n) i ≡ (zeros s m i && zeros s n (i + m))
 zeros-split s m n i =
     rw (zeros-are s (m + n) i, zeros-are s m i, zeros-are s n (i + m), ← replicate-append-replicate, bytesAre-split s i (replicate m 0) (replicate n 0), length-replicate)
-
-pub zeros-ext : (s r : List ℕ) (n i j : ℕ) → ((k : ℕ) → k < n → getD s (i + k) 0 ≡ getD r (j + k) 0) → zeros s n i ≡ zeros r n j
-zeros-ext s r n i j h =
-    zeros-are s n i ∙ bytesAre-ext s r i j (replicate n 0) (λ k l. h k (in-run n k l)) ∙ sym (zeros-are r n j)
