@@ -59,10 +59,6 @@ pub zeros-true : (s : List ℕ) (n i : ℕ) → ((k : ℕ) → k < n → getD s 
 zeros-true s n i h =
     zeros-are s n i ∙ bytesAre-true s i (replicate n 0) (λ k l. h k (in-run n k l) ∙ sym (getD-replicate n k 0 0 (in-run n k l)))
 
-pub zeros-false : (s : List ℕ) (n i k : ℕ) → k < n → (getD s (i + k) 0 ≡ 0 → ⊥) → zeros s n i ≡ false
-zeros-false s n i k h f =
-    zeros-are s n i ∙ bytesAre-false s i (replicate n 0) k (rw length-replicate h) (λ e. f (e ∙ getD-replicate n k 0 0 h))
-
 pub zeros-split : (s : List ℕ) (m n i : ℕ) → zeros s (m + n) i ≡ (zeros s m i && zeros s n (i + m))
 zeros-split s m n i =
     rw (zeros-are s (m + n) i, zeros-are s m i, zeros-are s n (i + m), ← replicate-append-replicate, bytesAre-split s i (replicate m 0) (replicate n 0), length-replicate)
