@@ -4,6 +4,7 @@ use mathlib.Core.Bool.{Bool, true, false, _&&_, and-false}
 use mathlib.Core.List.{List}
 use Prim.Native.Nat.{ℕ, zero, suc, _+_, _*_, _-_, _/_, _%_, _≤_}
 use native.Mathlib.Omega.{arith}
+use native.Mathlib.Nat.{add-comm, div-add-mod}
 use borrow.Author.Tests.{eq-eqb, ne-eqb}
 use lib.Dec.{eqb}
 use lib.ListN.{getD}
@@ -36,7 +37,7 @@ zeros-fewer w s n k i h f =
     ∙ rw (zeros-split s w after (i + k), ← word-zero w s (i + k), ne-eqb (leAt w s (i + k)) 0 f) (and-false (zeros s k i))
 
 -- the odd bytes of a run, of which b is the test, then its whole words
-pub odd-first : (s : List ℕ) (n i : ℕ) (b : Bool) → zeros s (n % 8) i ≡ b → zeros s n i ≡ (b && zeros s (8 * (n / 8)) (i + n % 8))
-odd-first s n i b h =
-    let e : n ≡ n % 8 + 8 * (n / 8) = omega arith in
-    ap (λ (m : ℕ). zeros s m i) e ∙ zeros-split s (n % 8) (8 * (n / 8)) i ∙ rw h
+pub odd-first : (w : ℕ) (s : List ℕ) (n i : ℕ) (b : Bool) → zeros s (n % w) i ≡ b → zeros s n i ≡ (b && zeros s (w * (n / w)) (i + n % w))
+odd-first w s n i b h =
+    let e : n ≡ n % w + w * (n / w) = sym (add-comm (n % w) (w * (n / w)) ∙ div-add-mod n w) in
+    ap (λ (m : ℕ). zeros s m i) e ∙ zeros-split s (n % w) (w * (n / w)) i ∙ rw h

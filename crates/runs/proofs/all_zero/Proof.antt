@@ -9,13 +9,13 @@ use Rattle.runs.proofs.all_zero.Tie as tie
 returns : tie.Need-returns
 returns c =
     let a = c .before .before .before .args in
-    sym (odd-first (a .s .now) (a .count) (a .at) false (sym (c .before .zero-bytes .ensures) ∙ not-true _ (c .if1 .taken)))
+    sym (odd-first 8 (a .s .now) (a .count) (a .at) false (sym (c .before .zero-bytes .ensures) ∙ not-true _ (c .if1 .taken)))
 
 returns-2 : tie.Need-returns-2
 returns-2 c =
     let a = c .before .before .before .before .args in
     let odd = sym (c .before .before .zero-bytes .ensures) ∙ not-false _ (c .before .if1 .left) in
-    c .zero-words .ensures ∙ sym (odd-first (a .s .now) (a .count) (a .at) true odd)
+    c .zero-words .ensures ∙ sym (odd-first 8 (a .s .now) (a .count) (a .at) true odd)
 
 pub all-zero-spec : {M : Type 1} → statement M
 all-zero-spec =
