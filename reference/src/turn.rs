@@ -120,15 +120,17 @@ impl Party {
             Step::C2 => {
                 let begin = region::slot_begin(self.count, self.power, self.slot_size);
                 let slot = &region[begin..begin + self.slot_size as usize];
-                let length = u16::from_le_bytes([slot[0], slot[1]]);
+                let field = |at: usize| u16::from_le_bytes([slot[at], slot[at + 1]]);
+                let (length, tag, flags, zero) = (field(0), field(2), field(4), field(6));
                 let needed = usize::from(length);
-                if needed > self.payload_capacity() {
+                // Slot flag 0 alone may be set.
+                if needed > self.payload_capacity() || flags > 1 || zero != 0 {
                     return self.ends(Answer::CorruptSlot);
                 }
                 if needed > buffer.len() {
                     return self.ends(Answer::OutputTooSmall { length });
                 }
-                self.tag = u16::from_le_bytes([slot[2], slot[3]]);
+                self.tag = tag;
                 buffer[..needed].copy_from_slice(&slot[8..8 + needed]);
                 self.goes_on(R::after_c2(self, length))
             }

@@ -126,6 +126,45 @@ fn sweeps_accept_what_document_01_accepts() {
     assert_eq!(sweeps, 2 * 384);
 }
 
+/// What a flipped bit of the header of a note of three bytes with tag 1 gives, payload capacity
+/// 8: the other length or tag, or 8. Of slot flags and zero word flag 0 alone is accepted.
+fn flipped(bit: u32) -> Answer {
+    let (length, tag) = match bit {
+        0..16 => (3 ^ 1 << bit, 1),
+        16..32 => (3, 1 ^ 1 << (bit - 16)),
+        32 => (3, 1),
+        _ => return Answer::CorruptSlot,
+    };
+    match length {
+        0..=8 => Answer::Delivered { tag, length },
+        _ => Answer::CorruptSlot,
+    }
+}
+
+#[test]
+fn every_bit_of_a_slot_header_is_flipped_and_has_its_answer() {
+    let cases = list();
+    for bit in 0..64 {
+        let name = format!("C2: bit {bit} of a slot's header is flipped");
+        let case = cases.iter().find(|case| case.name == name).expect(&name);
+        let mut stage = Stage::new();
+        let ended: Vec<Answer> = case
+            .records
+            .iter()
+            .filter_map(|&record| {
+                let came = stage.play(record);
+                let turn = record.ask == Ask::Turn(Side::Recorder);
+                (turn && came.answer.number() < 253).then_some(came.answer)
+            })
+            .collect();
+        let short = match flipped(bit) {
+            Answer::Delivered { length, .. } => Answer::OutputTooSmall { length },
+            other => other,
+        };
+        assert_eq!(ended, [short, flipped(bit)], "{name}");
+    }
+}
+
 /// Nothing is left of the cases before it, once its first record has seated a sender and its
 /// second a recorder. Sweeps are left out for their time.
 #[test]

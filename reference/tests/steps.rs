@@ -101,14 +101,31 @@ fn begins_fill_the_record() {
 }
 
 #[test]
-fn pop_ignores_slot_flags_and_keeps_the_rest_of_the_buffer() {
+fn pop_allows_slot_flag_0_and_keeps_the_rest_of_the_buffer() {
     let mut house = House::new(2, 32, true, 0);
     house.push(9, b"abc");
-    house.put(388, &[0xFF; 4]);
+    house.put(388, &[1]);
     house.put(395, &[0x77; 21]);
     house.begin_pop(false, 10);
     assert_eq!(house.finish(RECORDER), (delivered(9, 3), 4));
     assert_eq!(house.buffer, b"abc\xEE\xEE\xEE\xEE\xEE\xEE\xEE");
+}
+
+/// 8 before 15, and no byte changed; the note is still there for the next pop.
+#[test]
+fn any_other_slot_flag_and_any_bit_of_the_zero_word_is_a_corrupt_slot() {
+    let mut house = House::new(1, 16, true, 0);
+    house.push(9, b"abc");
+    for bit in 1..32 {
+        house.put(388, &(1u32 << bit).to_le_bytes());
+        let before = house.clone();
+        assert_eq!(house.pop(2), Answer::CorruptSlot, "bit {bit}");
+        assert_eq!(house.pop(8), Answer::CorruptSlot, "bit {bit}");
+        assert_eq!(house.region, before.region);
+        assert_eq!(house.buffer, [0xEE; 8]);
+    }
+    house.put(388, &[0; 4]);
+    assert_eq!(house.pop(8), delivered(9, 3));
 }
 
 #[test]

@@ -5,8 +5,7 @@ ghost use Prim.Native.Nat.{_+_, _≤_};
 ghost use lib.ListN.{length};
 ghost use Rattle.words.specs.Bytes.{part};
 ghost use Rattle.layout.specs.Limits.{slotHeadBytes, powerOk, payloadCapacity};
-ghost use Rattle.layout.specs.Slots.{headOf, slotPut};
-ghost use Rattle.rules.specs.Looks.{headWord};
+ghost use Rattle.layout.specs.Slots.{headWord, slotPut};
 ghost use Rattle.rules.specs.Access.{placeOf, slotOf, copiedOut, readOut};
 ghost use Rattle.copies.specs.Sized.{Sized};
 use types::Fit;
@@ -42,17 +41,18 @@ fn deliver(f: Fit, region: &[u8], at: usize, size: usize, count: usize, buffer: 
     }
 }
 
-// A pop's copy out of the slot of a counter: its header as one number, and the payload where it fits.
+// A pop's copy out of the slot of a counter: its header as one word, and the payload where it fits.
 pub fn read_slot(region: &[u8], own: Own, count: u64, named: u32, buffer: &mut [u8]) -> u64
     requires { ⌜ Sized own (length (now region)) × (named ≤ length (now buffer)) ⌝ }
-    ensures value { λ r. ⌜ r ≡ headWord (headOf (slotOf (now (region .entry)) own count)) ⌝ }
+    ensures value { λ r. ⌜ r ≡ headWord (slotOf (now (region .entry)) own count) ⌝ }
     ensures given { λ r. ⌜ now (buffer .exit) ≡ readOut named (payloadCapacity (own .slot)) (now (buffer .entry)) (slotOf (now (region .entry)) own count) ⌝ }
 {
     let at = place(own, count);
     let size = own.slot as usize;
-    let head = slots::head_at(region, at, size);
+    let word = slots::head_at(region, at, size);
+    let head = slots::head_of(word);
     let most = sizes::payload_capacity(own.slot);
-    let f = looks::fit_of(head.length, most, named);
+    let f = looks::fit_of(head, most, named);
     deliver(f, region, at, size, head.length as usize, buffer);
-    head.length as u64 + 0x1_0000 * (head.tag as u64)
+    word
 }

@@ -1,17 +1,16 @@
 -- The laws of a slot: what a write left is read back, and nothing else is touched or read.
-use mathlib.Core.Path.{_≡_, ap₂, _∙_}
+use mathlib.Core.Path.{_≡_, ap, _∙_}
 use mathlib.Core.List.{List, _++_, append-assoc}
-use Prim.Native.Nat.{ℕ, _+_, _^_, _≤_, _<_}
+use Prim.Native.Nat.{ℕ, _+_, _*_, _%_, _/_, _^_, _≤_, _<_}
 use native.Mathlib.Omega.{arith}
-use native.Mathlib.Nat.{zero-add}
-use lib.ListN.{length, getD, drop, length-append, length-drop}
+use lib.ListN.{length, getD, length-append}
 use lib.Seq.{length-sets, sets}
 use Rattle.words.specs.Bytes.{part}
 use Rattle.words.specs.Le.{leAt, leBytes}
-use Rattle.words.proofs.Sets.{Outside, Apart, sets-other, sets-append, length-part, part-ext, part-in, part-sets-other, part-sets-same}
-use Rattle.words.proofs.Laws.{length-leBytes, leAt-ext, leAt-part, leAt-sets, leAt-leBytes, leAt-append}
+use Rattle.words.proofs.Sets.{Outside, Apart, sets-other, sets-append, part-in, part-sets-other, part-sets-same}
+use Rattle.words.proofs.Laws.{length-leBytes, leAt-part, leAt-lt, leAt-sets, leAt-leBytes, leAt-append, leAt-split}
 use Rattle.layout.specs.Limits.{slotHeadBytes}
-use Rattle.layout.specs.Slots.{headOf, payloadIn, slotBytes, slotPut, bufferPut}
+use Rattle.layout.specs.Slots.{headWord, headOf, payloadIn, slotBytes, slotPut}
 
 pub length-slotBytes : (tag : ℕ) (payload : List ℕ) → length (slotBytes tag payload) ≡ slotHeadBytes + length payload
 unfolding slotBytes
@@ -39,6 +38,30 @@ word-here n t h = leAt-leBytes 2 n t h
 word-past : (n : ℕ) (t : List ℕ) (i : ℕ) → leAt 2 (leBytes 2 n ++ t) (2 + i) ≡ leAt 2 t i
 word-past n t i = rw length-leBytes at (leAt-append 2 (leBytes 2 n) t i)
 
+-- a header's one word is its four fields ..
+head-word : (s : List ℕ) → headWord s ≡ leAt 2 s 0 + 2 ^ 16 * (leAt 2 s 2 + 2 ^ 16 * (leAt 2 s 4 + 2 ^ 16 * leAt 2 s 6))
+head-word s = rw (← leAt-split 2 6 s 0, ← leAt-split 2 4 s 2, ← leAt-split 2 2 s 4)
+
+-- .. and they are taken apart again
+head-parts : (l g f z : ℕ) → l < 2 ^ 16 → g < 2 ^ 16 → f < 2 ^ 16 → z < 2 ^ 16
+    → headOf (l + 2 ^ 16 * (g + 2 ^ 16 * (f + 2 ^ 16 * z))) ≡ record { length = l; tag = g; flags = f; zero = z }
+unfolding headOf
+head-parts l g f z a b c d =
+    let word : ℕ = l + 2 ^ 16 * (g + 2 ^ 16 * (f + 2 ^ 16 * z)) in
+    let first : word % 2 ^ 16 ≡ l = omega arith in
+    let past-length : word / 2 ^ 16 ≡ g + 2 ^ 16 * (f + 2 ^ 16 * z) = omega arith in
+    let past-tag : word / 2 ^ 32 ≡ f + 2 ^ 16 * z = omega arith in
+    let past-flags : word / 2 ^ 48 ≡ z = omega arith in
+    let second : (g + 2 ^ 16 * (f + 2 ^ 16 * z)) % 2 ^ 16 ≡ g = omega arith in
+    let third : (f + 2 ^ 16 * z) % 2 ^ 16 ≡ f = omega arith in
+    let last : z % 2 ^ 16 ≡ z = omega arith in
+    rw (first, past-length, second, past-tag, third, past-flags, last)
+
+-- so what is read of a slot's header is the word of 16 bits at 0, at 2, at 4 and at 6
+pub head-fields : (s : List ℕ) → ((k : ℕ) → getD s k 0 < 256) → headOf (headWord s) ≡ record { length = leAt 2 s 0; tag = leAt 2 s 2; flags = leAt 2 s 4; zero = leAt 2 s 6 }
+head-fields s bytes =
+    ap headOf (head-word s) ∙ head-parts (leAt 2 s 0) (leAt 2 s 2) (leAt 2 s 4) (leAt 2 s 6) (leAt-lt 2 s 0 bytes) (leAt-lt 2 s 2 bytes) (leAt-lt 2 s 4 bytes) (leAt-lt 2 s 6 bytes)
+
 -- what a write left is read back, in the slot of that size at that place
 module _ (r : List ℕ) (at size tag : ℕ) (payload : List ℕ) (room : at + size ≤ length r) (fits : slotHeadBytes + length payload ≤ size) where
   written : (i : ℕ) → i + 2 ≤ slotHeadBytes → leAt 2 (part (slotPut r at tag payload) at size) i ≡ leAt 2 (slotBytes tag payload) i
@@ -47,18 +70,18 @@ module _ (r : List ℕ) (at size tag : ℕ) (payload : List ℕ) (room : at + si
       let n : length (slotBytes tag payload) ≡ slotHeadBytes + length payload = length-slotBytes tag payload in
       leAt-part 2 (sets r at (slotBytes tag payload)) at size i (omega arith) ∙ leAt-sets 2 r at (slotBytes tag payload) i (omega arith) (omega arith)
 
-  pub put-length : length payload < 2 ^ 16 → leAt 2 (part (slotPut r at tag payload) at size) 0 ≡ length payload
+  put-length : length payload < 2 ^ 16 → leAt 2 (part (slotPut r at tag payload) at size) 0 ≡ length payload
   unfolding slotBytes
   put-length h = written 0 (omega arith) ∙ word-here (length payload) (leBytes 2 tag ++ (leBytes 2 0 ++ (leBytes 2 0 ++ payload))) h
 
-  pub put-tag : tag < 2 ^ 16 → leAt 2 (part (slotPut r at tag payload) at size) 2 ≡ tag
+  put-tag : tag < 2 ^ 16 → leAt 2 (part (slotPut r at tag payload) at size) 2 ≡ tag
   unfolding slotBytes
   put-tag h =
       let t : List ℕ = leBytes 2 0 ++ (leBytes 2 0 ++ payload) in
       written 2 (omega arith) ∙ word-past (length payload) (leBytes 2 tag ++ t) 0 ∙ word-here tag t h
 
   -- slot flags and the zero word
-  pub put-flags : leAt 2 (part (slotPut r at tag payload) at size) 4 ≡ 0
+  put-flags : leAt 2 (part (slotPut r at tag payload) at size) 4 ≡ 0
   unfolding slotBytes
   put-flags =
       let t : List ℕ = leBytes 2 0 ++ (leBytes 2 0 ++ payload) in
@@ -67,7 +90,7 @@ module _ (r : List ℕ) (at size tag : ℕ) (payload : List ℕ) (room : at + si
       ∙ word-past tag t 0
       ∙ word-here 0 (leBytes 2 0 ++ payload) (omega arith)
 
-  pub put-zero : leAt 2 (part (slotPut r at tag payload) at size) 6 ≡ 0
+  put-zero : leAt 2 (part (slotPut r at tag payload) at size) 6 ≡ 0
   unfolding slotBytes
   put-zero =
       let t : List ℕ = leBytes 2 0 ++ (leBytes 2 0 ++ payload) in
@@ -77,8 +100,9 @@ module _ (r : List ℕ) (at size tag : ℕ) (payload : List ℕ) (room : at + si
       ∙ word-past 0 (leBytes 2 0 ++ payload) 0
       ∙ word-here 0 payload (omega arith)
 
-  pub put-head : length payload < 2 ^ 16 → tag < 2 ^ 16 → headOf (part (slotPut r at tag payload) at size) ≡ record { length = length payload; tag = tag }
-  put-head h t = rw (put-length h, put-tag t)
+  -- the note's length and tag, and zeros
+  pub put-head : length payload < 2 ^ 16 → tag < 2 ^ 16 → headOf (headWord (part (slotPut r at tag payload) at size)) ≡ record { length = length payload; tag = tag; flags = 0; zero = 0 }
+  put-head h t = rw (head-word (part (slotPut r at tag payload) at size), put-length h, put-tag t, put-flags, put-zero) (head-parts (length payload) tag 0 0 h t (omega arith) (omega arith))
 
   pub put-payload : payloadIn (part (slotPut r at tag payload) at size) (length payload) ≡ payload
   unfolding slotPut slotBytes
@@ -88,22 +112,3 @@ module _ (r : List ℕ) (at size tag : ℕ) (payload : List ℕ) (room : at + si
       let e : slotBytes tag payload ≡ head ++ payload = simp append-assoc in
       part-in 0 (sets r at (slotBytes tag payload)) at size slotHeadBytes (length payload) (rw length-sets room) fits
       ∙ rw (e, sets-append r at head payload, n) (part-sets-same (sets r at head) (at + slotHeadBytes) payload (rw length-sets (omega arith)))
-
-  pub put-buffer : (buffer : List ℕ) → bufferPut buffer (part (slotPut r at tag payload) at size) (length payload) ≡ payload ++ drop (length payload) buffer
-  unfolding bufferPut
-  put-buffer buffer = rw put-payload
-
-pub length-bufferPut : (buffer s : List ℕ) (n : ℕ) → slotHeadBytes + n ≤ length s → n ≤ length buffer → length (bufferPut buffer s n) ≡ length buffer
-unfolding bufferPut
-length-bufferPut buffer s n h b = simp (length-append, length-part s slotHeadBytes n h, length-drop) (omega arith)
-
--- a read goes by length, tag and payload alone: not by slot flags, the zero word and the bytes behind the payload
-pub headOf-ext : (s t : List ℕ) → ((k : ℕ) → k < 4 → getD s k 0 ≡ getD t k 0) → headOf s ≡ headOf t
-headOf-ext s t same =
-    ap₂ (λ (l g : ℕ). record { length = l; tag = g })
-    (leAt-ext 2 s t 0 0 (λ k h. rw zero-add (same k (omega arith))))
-    (leAt-ext 2 s t 2 2 (λ k h. same (2 + k) (omega arith)))
-
-pub payloadIn-ext : (s t : List ℕ) (n : ℕ) → slotHeadBytes + n ≤ length s → slotHeadBytes + n ≤ length t
-    → ((k : ℕ) → k < n → getD s (slotHeadBytes + k) 0 ≡ getD t (slotHeadBytes + k) 0) → payloadIn s n ≡ payloadIn t n
-payloadIn-ext s t n = part-ext 0 s t slotHeadBytes slotHeadBytes n

@@ -1,6 +1,6 @@
 -- A slot of the ring: length u16, tag u16, slot flags u16, zero u16, payload.
 use mathlib.Core.List.{List, _++_}
-use Prim.Native.Nat.{ℕ, _+_, _*_, _%_}
+use Prim.Native.Nat.{ℕ, _+_, _*_, _%_, _/_, _^_}
 use lib.ListN.{length, drop}
 use lib.Seq.{sets}
 use Rattle.words.specs.Bytes.{part}
@@ -12,9 +12,14 @@ use Rattle.layout.specs.Limits.{headerBytes, slotHeadBytes, capacity}
 unfoldable pub slotAt : (power slot count : ℕ) → ℕ
 slotAt power slot count = headerBytes + count % capacity power * slot
 
--- what a pop reads of a slot's header: slot flags and the zero word are ignored
-abbrev pub headOf : List ℕ → SlotHead
-headOf s = record { length = leAt 2 s 0; tag = leAt 2 s 2 }
+-- a slot's header is read as one word of eight bytes ..
+abbrev pub headWord : List ℕ → ℕ
+headWord s = leAt 8 s 0
+
+-- .. whose fields are of 16 bits each, the first one lowest
+unfoldable pub headOf : (word : ℕ) → SlotHead
+headOf word =
+    record { length = word % 2 ^ 16; tag = word / 2 ^ 16 % 2 ^ 16; flags = word / 2 ^ 32 % 2 ^ 16; zero = word / 2 ^ 48 % 2 ^ 16 }
 
 abbrev pub payloadIn : List ℕ → ℕ → List ℕ
 payloadIn s n = part s slotHeadBytes n

@@ -1,12 +1,13 @@
 // What a value that a turn loaded says to a party.
 ghost use mathlib.Core.Path.{_≡_};
-ghost use Rattle.rules.specs.Looks.{doorOf, headLength, headTag, fitOf, napOf};
+ghost use Rattle.rules.specs.Looks.{doorOf, headBad, fitOf, napOf};
 use header::Header;
 use types::Door;
 use types::Fit;
 use types::Mark;
 use types::Nap;
 use types::Side;
+use types::SlotHead;
 
 // B1, W1, B4 and W4. A turn hands the flags on as 64 bits, of which they are the lowest 32.
 pub fn door_of(side: Side, flags: u64) -> Door
@@ -23,25 +24,27 @@ pub fn door_of(side: Side, flags: u64) -> Door
     if left { Door::Left } else { Door::Open }
 }
 
-// C2: a slot's header as one number.
-pub fn head_length(word: u64) -> u16
-    ensures { λ r. ⌜ r ≡ headLength word ⌝ }
+// C2, 8: slot flags 1 to 15, the zero word, the length. Flag 0 may be set.
+fn is_bad(head: SlotHead, most: u32) -> bool
+    ensures { λ r. ⌜ r ≡ headBad head most ⌝ }
 {
-    (word % 0x1_0000) as u16
-}
-
-pub fn head_tag(word: u64) -> u16
-    ensures { λ r. ⌜ r ≡ headTag word ⌝ }
-{
-    (word / 0x1_0000 % 0x1_0000) as u16
+    let flagged = 0 < head.flags / 2;
+    let filled = 0 < head.zero;
+    if flagged {
+        return true;
+    }
+    if filled {
+        return true;
+    }
+    most < (head.length as u32)
 }
 
 // C2: 8 before 15.
-pub fn fit_of(length: u16, most: u32, buffer: u32) -> Fit
-    ensures { λ r. ⌜ r ≡ fitOf length most buffer ⌝ }
+pub fn fit_of(head: SlotHead, most: u32, buffer: u32) -> Fit
+    ensures { λ r. ⌜ r ≡ fitOf head most buffer ⌝ }
 {
-    let bad = most < (length as u32);
-    let small = buffer < (length as u32);
+    let bad = is_bad(head, most);
+    let small = buffer < (head.length as u32);
     if bad {
         return Fit::Bad;
     }

@@ -6,12 +6,6 @@ use Rattle.looks.proofs as code
 pub door-of : OneAnswer code.door_of.Kinds.ps code.door_of.Kinds.r code.door_of.Reads.Post
 door-of κs a z z′ ws ws′ p q = (p ∙ sym q, refl)
 
-pub head-length : OneAnswer code.head_length.Kinds.ps code.head_length.Kinds.r code.head_length.Reads.Post
-head-length κs a z z′ ws ws′ p q = (p ∙ sym q, refl)
-
-pub head-tag : OneAnswer code.head_tag.Kinds.ps code.head_tag.Kinds.r code.head_tag.Reads.Post
-head-tag κs a z z′ ws ws′ p q = (p ∙ sym q, refl)
-
 pub fit-of : OneAnswer code.fit_of.Kinds.ps code.fit_of.Kinds.r code.fit_of.Reads.Post
 fit-of κs a z z′ ws ws′ p q = (p ∙ sym q, refl)
 

@@ -18,7 +18,7 @@ use Rattle.layout.specs.Attach.{magicOk, versionOk, sizesOk, flagChecks, ringCh
 use Rattle.layout.specs.Create.{createAnswer, created}
 use Rattle.layout.specs.Header.{blank, headed}
 use Rattle.layout.specs.Limits.{powerOk, slotOk, capacity, payloadCapacity, ringBytes, totalBytes}
-use Rattle.layout.specs.Slots.{slotAt, slotBytes, slotPut, bufferPut}
+use Rattle.layout.specs.Slots.{slotAt, headOf, slotBytes, slotPut, bufferPut}
 use Rattle.rules.specs.Access.{valueOf, leavesOf, bufferOf}
 use Rattle.rules.specs.Bench.{wakened, settled, turned, played, playedLeaves}
 use Rattle.rules.specs.Calls.{sound, ready, pushSpec, popSpec}
@@ -155,7 +155,7 @@ made = run before (opened start)
 computed :
     (createAnswer 416 1 16 ≡ Done 0 0) × (calm (before ++ ten) (opened start) ≡ true) × (asks ten made ≡ true) × (partyIn made Sender .step ≡ Rest) × (inCall (partyIn made Recorder .step) ≡ true)
     × (room Recorder (capacity 1) made ≡ 2) × (beats ten made ≡ 10) × (room Recorder (capacity 1) (run (before ++ ten) (opened start)) ≡ 1)
-unfolding magicOk versionOk sizesOk flagChecks ringChecks attachChecks attachAnswer attachReply attachLeaves createAnswer created blank headed powerOk slotOk capacity payloadCapacity ringBytes totalBytes slotAt slotBytes slotPut bufferPut valueOf leavesOf bufferOf wakened settled turned played playedLeaves sound ready pushSpec popSpec roomOf wasBlocked doorOf fitOf napOf nextSpec happens run lookMove copyMove publishMove checkMove wakeMove gateMove againMove waitMove closeMove shutMove moveOf takeSpec goes actSpec actLeaves actBuffer turnSpec turnLeaves zeros bytesAre leAt leBytes putLe plus minus
+unfolding magicOk versionOk sizesOk flagChecks ringChecks attachChecks attachAnswer attachReply attachLeaves createAnswer created blank headed powerOk slotOk capacity payloadCapacity ringBytes totalBytes slotAt headOf slotBytes slotPut bufferPut valueOf leavesOf bufferOf wakened settled turned played playedLeaves sound ready pushSpec popSpec roomOf wasBlocked doorOf fitOf napOf nextSpec happens run lookMove copyMove publishMove checkMove wakeMove gateMove againMove waitMove closeMove shutMove moveOf takeSpec goes actSpec actLeaves actBuffer turnSpec turnLeaves zeros bytesAre leAt leBytes putLe plus minus
 computed = (refl, refl, refl, refl, refl, refl, refl, refl)
 
 typed-here : AllTyped (before ++ ten)

@@ -28,8 +28,9 @@ use Rattle.types.specs.declared.Answer.the-variants.{Done, CorruptIndices, Sysc
 use Rattle.layout.specs.Limits.{capacity, payloadCapacity}
 use Rattle.layout.specs.Create.{createChecks, createAnswer}
 use Rattle.layout.specs.Attach.{attachChecks, attachAnswer, attachReply}
+use Rattle.layout.specs.Slots.{headOf}
 use Rattle.rules.specs.Sides.{ringBell, sleepBell, rings, waitOp, wakeOp}
-use Rattle.rules.specs.Looks.{roomOf, wasBlocked, doorOf, headLength, headTag, fitOf, napOf}
+use Rattle.rules.specs.Looks.{roomOf, wasBlocked, doorOf, fitOf, napOf}
 use Rattle.rules.specs.Steps.{roomMove, blockedMove, lookMove, fitMove, copyWith, copyMove, publishMove, checkMove, wakeMove, doorMove, gateMove, againMove, napMove, waitMove, closeMove, shutMove}
 use Rattle.rules.specs.Take.{stanceOf, moveAt, answerOf, moveOf, takeSpec}
 use Rattle.rules.specs.Next.{nextSpec}
@@ -83,7 +84,7 @@ module _ (p : Party) (v e : ℕ) where
   room-here = roomOf (p .own .side) (capacity (p .own .power)) (p .counter) v
 
   abbrev fit-here : Fit
-  fit-here = fitOf (headLength v) (payloadCapacity (p .own .slot)) (p .length)
+  fit-here = fitOf (headOf v) (payloadCapacity (p .own .slot)) (p .length)
 
   look-ends : p .step ≡ Look → (r : Room) → room-here ≡ r → (b : Bool) → p .blocking ≡ b → (q : Side) → p .own .side ≡ q
       → EndsWith p v e (answerOf (roomMove r (blockedMove b q)))
@@ -95,12 +96,12 @@ module _ (p : Party) (v e : ℕ) where
   look-ends s Blocked r false k Recorder o = empty s o k (rw o at r)
 
   copy-ends : p .step ≡ Copy → (q : Side) → p .own .side ≡ q → (f : Fit) → fit-here ≡ f
-      → EndsWith p v e (answerOf (copyWith q (fitMove f (headLength v) (headTag v))))
+      → EndsWith p v e (answerOf (copyWith q (fitMove f (headOf v .length) (headOf v .tag))))
   unfolding moveOf copyMove
   copy-ends s Sender o f h = goes-on {s = Publish 0 0} (rw (s, o))
   copy-ends s Recorder o Bad h = bad-slot s o h
   copy-ends s Recorder o Small h = too-small s o h
-  copy-ends s Recorder o Fits h = goes-on {s = Publish (headLength v) (headTag v)} (rw (s, o, h))
+  copy-ends s Recorder o Fits h = goes-on {s = Publish (headOf v .length) (headOf v .tag)} (rw (s, o, h))
 
   publish-ends : (l t : ℕ) → p .step ≡ Publish l t → (b : Bool) → rings (p .own .side) (p .own .notfull) ≡ b
       → EndsWith p v e (answerOf (pick b (To (Check l t)) (End (Done l t))))

@@ -1,9 +1,9 @@
 -- A copy turn: a push's slot holds its note, and a pop that fits has the first waiting note in its buffer.
 use mathlib.Core.Path.{_≡_, refl, sym, ap, _∙_}
-use mathlib.Core.Bool.{Bool, true, false}
+use mathlib.Core.Bool.{Bool, true, false, _||_}
 use mathlib.Core.List.{List, _++_}
 use mathlib.Core.Logic.{_⊎_, inl, inr}
-use Prim.Native.Nat.{ℕ, _+_, _-_, _^_, _<_, _≤_}
+use Prim.Native.Nat.{ℕ, _+_, _-_, _/_, _^_, _<_, _≤_}
 use native.Mathlib.Omega.{arith}
 use borrow.Author.Tests.{ltb-false}
 use lib.Dec.{ltb}
@@ -20,17 +20,16 @@ use Rattle.types.specs.declared.Fit.{Fit}
 use Rattle.types.specs.declared.Fit.the-variants.{Bad, Small, Fits}
 use Rattle.types.specs.declared.Access.the-variants.{WriteSlot, ReadSlot}
 use Rattle.layout.specs.Limits.{slotHeadBytes, powerOk, slotOk, payloadCapacity}
-use Rattle.layout.specs.Slots.{slotAt, headOf, bufferPut}
+use Rattle.layout.specs.Slots.{slotAt, headWord, headOf, bufferPut}
 use Rattle.layout.proofs.SizeLaws.{slot-least, slot-most, slot-within}
 use Rattle.layout.proofs.SlotLaws.{put-head, put-payload}
-use Rattle.rules.specs.Looks.{headWord, headLength, headTag, fitOf}
+use Rattle.rules.specs.Looks.{fitOf}
 use Rattle.rules.specs.Steps.{fitMove}
 use Rattle.rules.specs.Take.{stepAfter}
 use Rattle.rules.specs.Access.{slotOf, valueOf, leavesOf, bufferOf}
 use Rattle.rules.specs.Run.{Note, Trace, buffered}
 use Rattle.rules.specs.Phase.{phase}
-use Rattle.rules.proofs.HeadWords.{head-length, head-tag}
-use Rattle.rules.proofs.Real.{sizes, nth, HoldsAt, InHand, Fixed}
+use Rattle.rules.proofs.Real.{sizes, nth, headed, HoldsAt, InHand, Fixed}
 
 -- a step is the copy or is not
 pub is-copy : (s : Step) → (s ≡ Copy) ⊎ (s ≡ Copy → ⊥)
@@ -57,14 +56,16 @@ is-copy (ShutRaiseNf q n) = inr (λ e. let z : _≡_ {A = ℕ} 0 1 = cc in omega
 is-copy (ShutWakeNf q n) = inr (λ e. let z : _≡_ {A = ℕ} 0 1 = cc in omega arith)
 
 -- a fit that is good
-pub fit-good : (n most named : ℕ) → fitOf n most named ≡ Fits → (n ≤ most) × (n ≤ named)
+pub fit-good : (h : SlotHead) (most named : ℕ) → fitOf h most named ≡ Fits → (h .length ≤ most) × (h .length ≤ named)
 unfolding fitOf
-fit-good n most named e = by (ltb most n) (ltb named n) refl refl e
+fit-good h most named e = by (ltb 0 (h .flags / 2)) (ltb 0 (h .zero)) (ltb most (h .length)) (ltb named (h .length)) refl refl e
   where
-    by : (a b : Bool) → ltb most n ≡ a → ltb named n ≡ b → pick a Bad (pick b Small Fits) ≡ Fits → (n ≤ most) × (n ≤ named)
-    by true b p q e = absurd (let z : _≡_ {A = ℕ} 0 1 = cc in omega arith)
-    by false true p q e = absurd (let z : _≡_ {A = ℕ} 0 1 = cc in omega arith)
-    by false false p q e = (ltb-false most n p, ltb-false named n q)
+    by : (f z a b : Bool) → ltb most (h .length) ≡ a → ltb named (h .length) ≡ b → pick (f || (z || a)) Bad (pick b Small Fits) ≡ Fits → (h .length ≤ most) × (h .length ≤ named)
+    by true z a b p q e = absurd (let z : _≡_ {A = ℕ} 0 1 = cc in omega arith)
+    by false true a b p q e = absurd (let z : _≡_ {A = ℕ} 0 1 = cc in omega arith)
+    by false false true b p q e = absurd (let z : _≡_ {A = ℕ} 0 1 = cc in omega arith)
+    by false false false true p q e = absurd (let z : _≡_ {A = ℕ} 0 1 = cc in omega arith)
+    by false false false false p q e = (ltb-false most (h .length) p, ltb-false named (h .length) q)
 
 module _ (P S v : ℕ) (on : Bool) (power-ok : powerOk P ≡ true) (slot-ok : slotOk S ≡ true) (r : List ℕ) (fixed : Fixed P S v on r) (t : Trace) where
   slot-in : (c : ℕ) → slotAt P S c + S ≤ length r
@@ -99,34 +100,25 @@ module _ (P S v : ℕ) (on : Bool) (power-ok : powerOk P ≡ true) (slot-ok : sl
     slot-is : slot ≡ slotOf r (sizes P S v on Sender) (plus 64 v (length (t .delivered)))
     slot-is = rw (o, e)
 
-    pub head-is : headOf slot ≡ record { length = length (n .body); tag = n .tag }
-    head-is = ap headOf slot-is ∙ holds .head
+    abbrev head : SlotHead
+    head = headOf (valueOf r own (ReadSlot c))
 
-    abbrev word : ℕ
-    word = valueOf r own (ReadSlot c)
-
-    pub length-is : headLength word ≡ length (n .body)
+    pub head-is : head ≡ headed n
     unfolding valueOf
-    length-is = ap (λ (h : SlotHead). headLength (headWord h)) head-is ∙ head-length (record { length = length (n .body); tag = n .tag }) (short (length (n .body)) (holds .body-fits))
-
-    tag-is : headTag word ≡ n .tag
-    unfolding valueOf
-    tag-is = ap (λ (h : SlotHead). headTag (headWord h)) head-is ∙ head-tag (record { length = length (n .body); tag = n .tag }) (short (length (n .body)) (holds .body-fits)) (holds .tag-small)
+    head-is = ap (λ (s : List ℕ). headOf (headWord s)) slot-is ∙ holds .head
 
     -- what a copy that fits leaves in the buffer
-    filled : (named : ℕ) (lent : List ℕ) → fitOf (length (n .body)) (payloadCapacity (own .slot)) named ≡ Fits → bufferOf r own (ReadSlot c) named lent ≡ n .body ++ drop (length (n .body)) lent
-    unfolding bufferOf bufferPut
-    filled named lent g =
-        let h : headOf slot .length ≡ length (n .body) = ap (λ (x : SlotHead). x .length) head-is in
-        rw (h, g, slot-is, holds .payload)
+    filled : (named : ℕ) (lent : List ℕ) → fitOf (headed n) (payloadCapacity (own .slot)) named ≡ Fits → bufferOf r own (ReadSlot c) named lent ≡ n .body ++ drop (length (n .body)) lent
+    unfolding valueOf bufferOf bufferPut
+    filled named lent g = rw (head-is, g, slot-is, holds .payload)
 
     -- the next step and the hand, by how it fits
-    pub copy-read : (named : ℕ) (lent : List ℕ) → length lent ≡ named → (f : Fit) → fitOf (headLength word) (payloadCapacity (own .slot)) named ≡ f → nth (t .sent) (length (t .delivered)) ≡ n
-        → (r′ : List ℕ) → InHand P S v on Recorder (phase (stepAfter (fitMove f (headLength word) (headTag word)) Copy)) r′ (buffered (bufferOf r own (ReadSlot c) named lent) t)
+    pub copy-read : (named : ℕ) (lent : List ℕ) → length lent ≡ named → (f : Fit) → fitOf head (payloadCapacity (own .slot)) named ≡ f → nth (t .sent) (length (t .delivered)) ≡ n
+        → (r′ : List ℕ) → InHand P S v on Recorder (phase (stepAfter (fitMove f (head .length) (head .tag)) Copy)) r′ (buffered (bufferOf r own (ReadSlot c) named lent) t)
     copy-read named lent long Bad g first r′ = tt
     copy-read named lent long Small g first r′ = tt
     copy-read named lent long Fits g first r′ =
-        let k : fitOf (length (n .body)) (payloadCapacity (own .slot)) named ≡ Fits = rw length-is at g in
-        let s = fit-good (length (n .body)) (payloadCapacity (own .slot)) named k in
-        rw (length-is, tag-is, filled named lent k)
+        let k : fitOf (headed n) (payloadCapacity (own .slot)) named ≡ Fits = rw head-is at g in
+        let s = fit-good (headed n) (payloadCapacity (own .slot)) named k in
+        rw (head-is, filled named lent k)
         (rw length-append (omega arith), first ∙ ap (λ (b : List ℕ). record { tag = n .tag; body = b }) (sym (take-at (n .body) (drop (length (n .body)) lent) (length (n .body)) refl)))

@@ -14,25 +14,26 @@ use Rattle.types.specs.declared.Own.{Own}
 use Rattle.types.specs.declared.Fit.the-variants.{Fits}
 use Rattle.types.specs.declared.Step.the-variants.{Rest, Copy}
 use Rattle.layout.specs.Limits.{powerOk, slotOk, payloadCapacity}
-use Rattle.rules.specs.Looks.{headLength, headTag, fitOf}
+use Rattle.layout.specs.Slots.{headOf}
+use Rattle.rules.specs.Looks.{fitOf}
 use Rattle.rules.specs.Steps.{copyWith, copyMove, fitMove}
 use Rattle.rules.specs.Take.{stepAfter}
 use Rattle.rules.specs.Next.{slotAccess}
 use Rattle.rules.specs.Access.{valueOf}
 use Rattle.rules.specs.Run.{Note, Trace, World, partyIn}
 use Rattle.rules.specs.Stretch.{Big}
-use Rattle.rules.proofs.Copies.{length-is}
-use Rattle.rules.proofs.Real.{countOf, sizes, roomIn, nth, blank, Real}
+use Rattle.rules.proofs.Copies.{head-is}
+use Rattle.rules.proofs.Real.{countOf, sizes, roomIn, nth, blank, headed, Real}
 
-fit-is : (n most named : ℕ) → n ≤ most → n ≤ named → fitOf n most named ≡ Fits
+fit-is : (n : Note) (most named : ℕ) → length (n .body) ≤ most → length (n .body) ≤ named → fitOf (headed n) most named ≡ Fits
 unfolding fitOf
-fit-is n most named h g = rw (le-ltb most n h, le-ltb named n g)
+fit-is n most named h g = rw (le-ltb most (length (n .body)) h, le-ltb named (length (n .body)) g)
 
 copy-next : (own : Own) (named val : ℕ) (σ : Side) → own .side ≡ σ
-    → stepAfter (copyMove own named val) Copy ≡ stepAfter (copyWith σ (fitMove (fitOf (headLength val) (payloadCapacity (own .slot)) named) (headLength val) (headTag val))) Copy
+    → stepAfter (copyMove own named val) Copy ≡ stepAfter (copyWith σ (fitMove (fitOf (headOf val) (payloadCapacity (own .slot)) named) (headOf val .length) (headOf val .tag))) Copy
 unfolding copyMove
 copy-next own named val σ z =
-    ap (λ (x : Side). stepAfter (copyWith x (fitMove (fitOf (headLength val) (payloadCapacity (own .slot)) named) (headLength val) (headTag val))) Copy) z
+    ap (λ (x : Side). stepAfter (copyWith x (fitMove (fitOf (headOf val) (payloadCapacity (own .slot)) named) (headOf val .length) (headOf val .tag))) Copy) z
 
 module _ (P S v : ℕ) (on : Bool) (power-ok : powerOk P ≡ true) (slot-ok : slotOk S ≡ true) (w : World) (real : Real P S v on w) where
   abbrev t : Trace
@@ -47,12 +48,12 @@ module _ (P S v : ℕ) (on : Bool) (power-ok : powerOk P ≡ true) (slot-ok : sl
 
   good-fit : (own : Own) (c named : ℕ) → own ≡ sizes P S v on Recorder → c ≡ plus 64 v (length (t .delivered)) → 0 < roomIn P S v on Recorder t
       → ((n : Note) (rest : List Note) → t .sent ≡ t .delivered ++ (n ∷ rest) → length (n .body) ≤ named)
-      → fitOf (headLength (valueOf (w .region) own (slotAccess Recorder c))) (payloadCapacity (own .slot)) named ≡ Fits
+      → fitOf (headOf (valueOf (w .region) own (slotAccess Recorder c))) (payloadCapacity (own .slot)) named ≡ Fits
   good-fit own c named o e h big =
       let n : Note = nth (t .sent) (length (t .delivered)) in
       let holds = real .queue .ring (length (t .delivered)) (omega arith) (omega arith) in
-      rw (length-is P S v on power-ok slot-ok (w .region) (real .fixed) t own c o e n holds, o)
-      (fit-is (length (n .body)) (payloadCapacity S) named (holds .body-fits) (big n _ (first-waits h)))
+      rw (head-is P S v on power-ok slot-ok (w .region) (real .fixed) t own c o e n holds, o)
+      (fit-is n (payloadCapacity S) named (holds .body-fits) (big n _ (first-waits h)))
 
   pub no-spill : (σ : Side) (val : ℕ) → partyIn w σ .own ≡ sizes P S v on σ → partyIn w σ .counter ≡ plus 64 v (countOf σ t)
       → val ≡ valueOf (w .region) (partyIn w σ .own) (slotAccess σ (partyIn w σ .counter)) → 0 < roomIn P S v on σ t → partyIn w σ .step ≡ Copy → Big σ w

@@ -10,7 +10,6 @@ use Rattle.words.specs.Wrap.{plus, next}
 use Rattle.types.specs.declared.Side.{Side}
 use Rattle.types.specs.declared.Side.the-variants.{Sender, Recorder}
 use Rattle.types.specs.declared.Bell.the-variants.{NotEmpty, NotFull}
-use Rattle.types.specs.declared.SlotHead.{SlotHead}
 use Rattle.types.specs.declared.Party.{Party}
 use Rattle.types.specs.declared.Step.{Step}
 use Rattle.types.specs.declared.Step.the-variants.{Copy, Publish, Raise}
@@ -20,7 +19,7 @@ use Rattle.layout.specs.Limits.{slotHeadBytes, powerOk, slotOk, capacity}
 use Rattle.rules.specs.Sides.{other}
 use Rattle.rules.specs.Next.{nextAt}
 use Rattle.rules.specs.Access.{leavesOf}
-use Rattle.rules.specs.Run.{Note, Trace, published, carried, traced}
+use Rattle.rules.specs.Run.{Note, Trace, Carried, published, carried, traced}
 use Rattle.rules.specs.Phase.{Phase, resting, looking, copying, publishing, telling, asking, armed, poised, waits, sleeps as asleep, leaving, phase}
 use Rattle.rules.proofs.Does.{Does, nothing, looks, flags, reads as epoch, writes, takes, stores as store, raises as ring, closes as close, shuts as shut, waits as wait, wakes as wake}
 use Rattle.rules.proofs.Leads.{Leads, idles, finds, blocks, gives-up, copies, spills, tells, stores, owes, passes, raises, wakes, enters, stops, reads, finds-again, stays, enters-again, stops-again, sleeps, returns, ends, dreams, closes, closes-alone, close-raises, close-wakes, shuts, shut-raises, shut-wakes, shut-raises-again, shut-wakes-again}
@@ -160,7 +159,7 @@ module _ (P S v : ℕ) (on : Bool) (power-ok : powerOk P ≡ true) (slot-ok : sl
   told-hand : (side : Side) (l g : ℕ) → p .step ≡ Publish l g → InHand P S v on side (publishing l g) r t
       → InHand P S v on side (telling l g) (left (StoreCounter side (next 64 (p .counter)))) (told (StoreCounter side (next 64 (p .counter))))
   told-hand Sender l g at y = tt
-  told-hand Recorder l g at y = (y .0, (t .delivered, ap (λ (c : SlotHead). t .delivered ++ (record { tag = c .tag; body = take (c .length) (t .buffer) } ∷ [])) (ap carried at)))
+  told-hand Recorder l g at y = (y .0, (t .delivered, ap (λ (c : Carried). t .delivered ++ (record { tag = c .tag; body = take (c .length) (t .buffer) } ∷ [])) (ap carried at)))
 
   still-hand : (side : Side) (l g : ℕ) (r′ : List ℕ) → InHand P S v on side (telling l g) r t → InHand P S v on side (telling l g) r′ t
   still-hand Sender l g r′ y = tt

@@ -23,8 +23,9 @@ use Rattle.types.specs.declared.Answer.the-variants.{Done}
 use Rattle.types.specs.declared.Move.the-variants.{To, End}
 use Rattle.layout.specs.Limits.{capacity, payloadCapacity}
 use Rattle.layout.specs.Flags.{worth, bitOn, closeMark}
+use Rattle.layout.specs.Slots.{headOf}
 use Rattle.rules.specs.Sides.{other, rings, sleepBell, waitOp}
-use Rattle.rules.specs.Looks.{roomOf, wasBlocked, doorOf, headLength, headTag, fitOf, napOf}
+use Rattle.rules.specs.Looks.{roomOf, wasBlocked, doorOf, fitOf, napOf}
 use Rattle.rules.specs.Steps.{roomMove, blockedMove, lookMove, fitMove, copyWith, copyMove, publishMove, checkMove, wakeMove, doorMove, gateMove, againMove, napMove, waitMove, closeMove, shutMove}
 use Rattle.rules.specs.Take.{moveAt, stepAfter}
 use Rattle.rules.proofs.Rooms.{asRoom}
@@ -166,7 +167,7 @@ pub leads : (own : Own) (k x : ℕ) (z : Bool) (b c : ℕ) (m : Bool) (l v f : �
 unfolding lookMove copyMove publishMove checkMove wakeMove gateMove againMove waitMove closeMove shutMove doorOf
 leads own k x z b c m l v f Rest h = idles
 leads own k x z b c m l v f Look h = rw h (look-leads k x z m (rings (own .side) (own .notfull)) b (own .side) k refl m refl)
-leads own k x z b c m l v f Copy h = copy-leads k x z m (rings (own .side) (own .notfull)) b (own .side) (fitOf (headLength v) (payloadCapacity (own .slot)) l) (headLength v) (headTag v)
+leads own k x z b c m l v f Copy h = copy-leads k x z m (rings (own .side) (own .notfull)) b (own .side) (fitOf (headOf v) (payloadCapacity (own .slot)) l) (headOf v .length) (headOf v .tag)
 leads own k x z b c m l v f (Publish n t) h = publish-leads k x z m (rings (own .side) (own .notfull)) b n t (rings (own .side) (own .notfull)) refl
 leads own k x z b c m l v f (Check n t) h = rw h (check-leads k x z m (rings (own .side) (own .notfull)) b n t (eqb x 1) refl)
 leads own k x z b c m l v f (Raise n t) h = raises

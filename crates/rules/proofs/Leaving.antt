@@ -2,13 +2,8 @@
 use mathlib.Core.Path.{_≡_, refl, ap, _∙_}
 use mathlib.Core.Bool.{Bool, true, false}
 use mathlib.Core.List.{List}
-use Prim.Native.Nat.{ℕ, _+_, _<_, _≤_}
-use native.Mathlib.Decide.{decLt}
+use Prim.Native.Nat.{ℕ}
 use native.Mathlib.Omega.{arith}
-use lib.ListN.{length, getD, length-take, List·getD-eq-default}
-use Rattle.words.specs.Bytes.{part}
-use Rattle.words.proofs.Sets.{getD-part}
-use Rattle.words.proofs.Laws.{leAt-lt}
 use Rattle.types.specs.declared.Side.{Side}
 use Rattle.types.specs.declared.Side.the-variants.{Recorder}
 use Rattle.types.specs.declared.Party.{Party}
@@ -28,16 +23,15 @@ use Rattle.types.specs.declared.Answer.the-variants.{Done, InvalidMagic, Unsupp
 use Rattle.types.specs.declared.Access.{Access}
 use Rattle.types.specs.declared.Access.the-variants.{None, LoadCounter, LoadFlags, ReadSlot, WaitBell}
 use Rattle.layout.specs.Limits.{payloadCapacity}
-use Rattle.layout.specs.Slots.{headOf}
+use Rattle.layout.specs.Slots.{headWord, headOf}
 use Rattle.rules.specs.Sides.{other, sleepBell}
-use Rattle.rules.specs.Looks.{headLength, fitOf}
+use Rattle.rules.specs.Looks.{fitOf}
 use Rattle.rules.specs.Take.{stanceOf, answerOf, stepAfter, closedAfter, counterAfter, moveOf, takeSpec}
 use Rattle.rules.specs.Next.{slotAccess, nextAt, nextSpec}
-use Rattle.rules.specs.Access.{placeOf, slotOf, valueOf, leavesOf, copiedOut, bufferOf}
+use Rattle.rules.specs.Access.{slotOf, valueOf, leavesOf, copiedOut, bufferOf}
 use Rattle.rules.specs.Turn.{errorOf, taken, wokeOf, actSpec, actLeaves, actBuffer, turnSpec, turnLeaves, turnBuffer}
 use Rattle.rules.specs.Given.{EndsWith, published, checked, woke, closed-alone, closed, shut, corrupt, bad-slot, too-small, full, empty, left, left-again, down, down-again, timed-out, wake-failed, close-failed, wait-failed, shut-failed, shut-failed-last, resting, asleep, goes-on, turn}
 use Rattle.rules.specs.Leaves.{Leaves}
-use Rattle.rules.proofs.HeadWords.{head-length}
 use Rattle.rules.proofs.Answered.{ends-only}
 
 -- a party after a turn, by its stance and its move alone
@@ -92,15 +86,6 @@ rests-by Still s x e t = absurd (let z : _≡_ {A = ℕ} 0 1 = cc in omega arith
 rests-by (To n) s x e t = absurd (let z : _≡_ {A = ℕ} 0 1 = cc in omega arith)
 rests-by (End a) s x e t = refl
 
-part-bytes : (r : List ℕ) (i n : ℕ) → ((k : ℕ) → getD r k 0 < 256) → (k : ℕ) → getD (part r i n) k 0 < 256
-part-bytes r i n h k = by (decLt k n)
-  where
-    by : Dec (k < n) → getD (part r i n) k 0 < 256
-    by (yes l) = rw (getD-part r i n k 0 l) (h (i + k))
-    by (no l) =
-        let m : length (part r i n) ≤ k = simp length-take (omega arith) in
-        rw (List·getD-eq-default (part r i n) 0 m) (omega arith)
-
 module _ (side : Side) (r : List ℕ) (p : Party) (i o : List ℕ) (f : Fault) (g : taken side r p i o f ≡ true) where
   abbrev value : ℕ
   value = valueOf r (p .own) (nextSpec p)
@@ -145,42 +130,40 @@ module _ (side : Side) (r : List ℕ) (p : Party) (i o : List ℕ) (f : Fault) (
   nobody a n h = ap (λ (t : Turned). t .woke) turn-is ∙ rw n h
 
   -- a copy that does not fit
-  copy-kept : (k : (j : ℕ) → getD r j 0 < 256) → p .step ≡ Copy → p .own .side ≡ Recorder → (t : Fit) → copiedOut t o (slotOf r (p .own) (p .counter)) (headOf (slotOf r (p .own) (p .counter)) .length) ≡ o
-      → fitOf (headLength value) (payloadCapacity (p .own .slot)) (p .length) ≡ t
+  copy-kept : p .step ≡ Copy → p .own .side ≡ Recorder → (t : Fit) → copiedOut t o (slotOf r (p .own) (p .counter)) (headOf (headWord (slotOf r (p .own) (p .counter))) .length) ≡ o
+      → fitOf (headOf value) (payloadCapacity (p .own .slot)) (p .length) ≡ t
       → (turnLeaves side r p i o f ≡ r) × (turnBuffer side r p i o f ≡ o)
   unfolding leavesOf bufferOf valueOf
-  copy-kept k s q t c h =
+  copy-kept s q t c h =
       let n : nextSpec p ≡ ReadSlot (p .counter) = next-is Copy s ∙ ap (λ (x : Side). slotAccess x (p .counter)) q in
-      let slot : List ℕ = slotOf r (p .own) (p .counter) in
-      let l : headLength value ≡ headOf slot .length = ap (λ (a : Access). headLength (valueOf r (p .own) a)) n ∙ head-length (headOf slot) (leAt-lt 2 slot 0 (part-bytes r (placeOf (p .own) (p .counter)) (p .own .slot) k)) in
-      let e : fitOf (headOf slot .length) (payloadCapacity (p .own .slot)) (p .length) ≡ t = rw l at h in
+      let e : fitOf (headOf (headWord (slotOf r (p .own) (p .counter)))) (payloadCapacity (p .own .slot)) (p .length) ≡ t = rw n at h in
       looks-kept (ReadSlot (p .counter)) n refl (rw e c)
 
-  pub ends-leaves : {x : Answer} → ((j : ℕ) → getD r j 0 < 256) → EndsWith p value (errorOf f) x → Leaves x (turn side r p i o f)
+  pub ends-leaves : {x : Answer} → EndsWith p value (errorOf f) x → Leaves x (turn side r p i o f)
   unfolding leavesOf bufferOf moveOf
-  ends-leaves k (published s q) = turn-rests (published s q) refl
-  ends-leaves k (checked s b) = turn-rests (checked s b) refl
-  ends-leaves k (woke s z) = turn-rests (woke s z) refl
-  ends-leaves k (closed-alone s q) = turn-rests (closed-alone s q) refl
-  ends-leaves k (closed s z) = turn-rests (closed s z) refl
-  ends-leaves k (shut s a z) = turn-rests (shut s a z) refl
-  ends-leaves k (corrupt s) = turn-rests (corrupt s) refl
-  ends-leaves k (bad-slot s q h) = (copy-kept k s q Bad refl h, turn-rests (bad-slot s q h) refl)
-  ends-leaves k (too-small s q h) = (copy-kept k s q Small refl h, turn-rests (too-small s q h) refl)
-  ends-leaves k (full s q b h) = (looks-kept (LoadCounter (other (p .own .side))) (next-is Look s) refl refl, turn-rests (full s q b h) refl)
-  ends-leaves k (empty s q b h) = (looks-kept (LoadCounter (other (p .own .side))) (next-is Look s) refl refl, turn-rests (empty s q b h) refl)
-  ends-leaves k (left s d) = (looks-kept LoadFlags (next-is Gate s) refl refl, turn-rests (left s d) refl)
-  ends-leaves k (left-again {epoch} s d) = (looks-kept LoadFlags (next-is (GateAgain epoch) s) refl refl, turn-rests (left-again s d) refl)
-  ends-leaves k (down s d) = (looks-kept LoadFlags (next-is Gate s) refl refl, turn-rests (down s d) refl)
-  ends-leaves k (down-again {epoch} s d) = (looks-kept LoadFlags (next-is (GateAgain epoch) s) refl refl, turn-rests (down-again s d) refl)
-  ends-leaves k (timed-out {epoch} s n) = (looks-kept (WaitBell (sleepBell (p .own .side)) epoch) (next-is (Wait epoch) s) refl refl, turn-rests (timed-out s n) refl)
-  ends-leaves k (wake-failed s z) = turn-rests (wake-failed s z) refl
-  ends-leaves k (close-failed s z) = turn-rests (close-failed s z) refl
-  ends-leaves k (wait-failed s n) = turn-rests (wait-failed s n) refl
-  ends-leaves k (shut-failed s a) = turn-rests (shut-failed s a) refl
-  ends-leaves k (shut-failed-last s a z) = turn-rests (shut-failed-last s a z) refl
-  ends-leaves k (resting s) =
+  ends-leaves (published s q) = turn-rests (published s q) refl
+  ends-leaves (checked s b) = turn-rests (checked s b) refl
+  ends-leaves (woke s z) = turn-rests (woke s z) refl
+  ends-leaves (closed-alone s q) = turn-rests (closed-alone s q) refl
+  ends-leaves (closed s z) = turn-rests (closed s z) refl
+  ends-leaves (shut s a z) = turn-rests (shut s a z) refl
+  ends-leaves (corrupt s) = turn-rests (corrupt s) refl
+  ends-leaves (bad-slot s q h) = (copy-kept s q Bad refl h, turn-rests (bad-slot s q h) refl)
+  ends-leaves (too-small s q h) = (copy-kept s q Small refl h, turn-rests (too-small s q h) refl)
+  ends-leaves (full s q b h) = (looks-kept (LoadCounter (other (p .own .side))) (next-is Look s) refl refl, turn-rests (full s q b h) refl)
+  ends-leaves (empty s q b h) = (looks-kept (LoadCounter (other (p .own .side))) (next-is Look s) refl refl, turn-rests (empty s q b h) refl)
+  ends-leaves (left s d) = (looks-kept LoadFlags (next-is Gate s) refl refl, turn-rests (left s d) refl)
+  ends-leaves (left-again {epoch} s d) = (looks-kept LoadFlags (next-is (GateAgain epoch) s) refl refl, turn-rests (left-again s d) refl)
+  ends-leaves (down s d) = (looks-kept LoadFlags (next-is Gate s) refl refl, turn-rests (down s d) refl)
+  ends-leaves (down-again {epoch} s d) = (looks-kept LoadFlags (next-is (GateAgain epoch) s) refl refl, turn-rests (down-again s d) refl)
+  ends-leaves (timed-out {epoch} s n) = (looks-kept (WaitBell (sleepBell (p .own .side)) epoch) (next-is (Wait epoch) s) refl refl, turn-rests (timed-out s n) refl)
+  ends-leaves (wake-failed s z) = turn-rests (wake-failed s z) refl
+  ends-leaves (close-failed s z) = turn-rests (close-failed s z) refl
+  ends-leaves (wait-failed s n) = turn-rests (wait-failed s n) refl
+  ends-leaves (shut-failed s a) = turn-rests (shut-failed s a) refl
+  ends-leaves (shut-failed-last s a z) = turn-rests (shut-failed-last s a z) refl
+  ends-leaves (resting s) =
       (looks-kept None (next-is Rest s) refl refl, (turn-still Resting (ap stanceOf s) (still-rests p) (rw s), nobody None (next-is Rest s) refl))
-  ends-leaves k (asleep s) =
+  ends-leaves (asleep s) =
       (looks-kept None (next-is Asleep s) refl refl, (turn-still Sleeping (ap stanceOf s) (still-sleeps p) (rw s), nobody None (next-is Asleep s) refl))
-  ends-leaves k (goes-on m) = tt
+  ends-leaves (goes-on m) = tt

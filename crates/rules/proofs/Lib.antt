@@ -1,4 +1,3 @@
-pub mod HeadWords
 pub mod Answered
 pub mod Leaving
 pub mod Refusals

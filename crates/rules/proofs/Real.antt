@@ -10,12 +10,13 @@ use Rattle.words.specs.Wrap.{plus}
 use Rattle.types.specs.declared.Side.{Side}
 use Rattle.types.specs.declared.Side.the-variants.{Sender, Recorder}
 use Rattle.types.specs.declared.Own.{Own}
+use Rattle.types.specs.declared.SlotHead.{SlotHead}
 use Rattle.types.specs.declared.Party.{Party}
 use Rattle.types.specs.declared.Step.the-variants.{Rest}
 use Rattle.layout.specs.Limits.{capacity, payloadCapacity, totalBytes}
 use Rattle.layout.specs.Flags.{worth, notFullOn, reservedFrom, bitOn, attachMark, closeMark}
 use Rattle.layout.specs.Header.{powerAt, slotSizeAt, flagsAt, counterAt, bellAt}
-use Rattle.layout.specs.Slots.{headOf, payloadIn}
+use Rattle.layout.specs.Slots.{headWord, headOf, payloadIn}
 use Rattle.rules.specs.Sides.{sleepBell}
 use Rattle.rules.specs.Access.{slotOf}
 use Rattle.rules.specs.Phase.{Phase, resting, looking, copying, publishing, telling, asking, armed, poised, waits, sleeps, leaving, phase}
@@ -89,6 +90,10 @@ blank = record { tag = 0; body = [] }
 abbrev pub nth : List Note → ℕ → Note
 nth notes i = getD notes i blank
 
+-- the slot header of a note
+abbrev pub headed : Note → SlotHead
+headed n = record { length = length (n .body); tag = n .tag; flags = 0; zero = 0 }
+
 module _ (P S v : ℕ) (on : Bool) where
   abbrev pub cap : ℕ
   cap = capacity P
@@ -103,7 +108,7 @@ module _ (P S v : ℕ) (on : Bool) where
 
   -- the slot of the i-th note holds it
   pub record HoldsAt (r : List ℕ) (i : ℕ) (n : Note) : Type 0 where
-    pub head : headOf (slotOf r (sizes Sender) (plus 64 v i)) ≡ record { length = length (n .body); tag = n .tag }
+    pub head : headOf (headWord (slotOf r (sizes Sender) (plus 64 v i))) ≡ headed n
     pub payload : payloadIn (slotOf r (sizes Sender) (plus 64 v i)) (length (n .body)) ≡ n .body
     pub tag-small : n .tag < 2 ^ 16
     pub body-fits : length (n .body) ≤ payloadCapacity S

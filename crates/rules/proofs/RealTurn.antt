@@ -24,8 +24,9 @@ use Rattle.types.specs.declared.Access.the-variants.{WriteSlot, ReadSlot}
 use Rattle.layout.specs.Limits.{slotHeadBytes, powerOk, slotOk, capacity, payloadCapacity}
 use Rattle.layout.specs.Header.{flagsAt, counterAt, bellAt}
 use Rattle.layout.proofs.SizeLaws.{capacity-room, slot-least}
+use Rattle.layout.specs.Slots.{headOf}
 use Rattle.rules.specs.Sides.{other, rings, sleepBell}
-use Rattle.rules.specs.Looks.{roomOf, wasBlocked, headLength, headTag, fitOf}
+use Rattle.rules.specs.Looks.{roomOf, wasBlocked, fitOf}
 use Rattle.rules.specs.Steps.{copyWith, copyMove, fitMove}
 use Rattle.rules.specs.Take.{stanceOf, counterAfter, stepAfter, moveAt, moveOf}
 use Rattle.rules.specs.Next.{slotAccess, nextAt, nextSpec}
@@ -172,10 +173,10 @@ module _ (P S v : ℕ) (on : Bool) (power-ok : powerOk P ≡ true) (slot-ok : sl
 
     -- where a copy leads, by the side
     copy-step : (own : Own) (val : ℕ) (σ : Side) → own .side ≡ σ
-        → stepAfter (copyMove own (p .length) val) Copy ≡ stepAfter (copyWith σ (fitMove (fitOf (headLength val) (payloadCapacity (own .slot)) (p .length)) (headLength val) (headTag val))) Copy
+        → stepAfter (copyMove own (p .length) val) Copy ≡ stepAfter (copyWith σ (fitMove (fitOf (headOf val) (payloadCapacity (own .slot)) (p .length)) (headOf val .length) (headOf val .tag))) Copy
     unfolding copyMove
     copy-step own val σ z =
-        ap (λ (x : Side). stepAfter (copyWith x (fitMove (fitOf (headLength val) (payloadCapacity (own .slot)) (p .length)) (headLength val) (headTag val))) Copy) z
+        ap (λ (x : Side). stepAfter (copyWith x (fitMove (fitOf (headOf val) (payloadCapacity (own .slot)) (p .length)) (headOf val .length) (headOf val .tag))) Copy) z
 
     -- the hand after a copy
     copy-hand : (σ : Side) (own : Own) (c val : ℕ) → own ≡ sizes P S v on σ → c ≡ plus 64 v (countOf σ t) → val ≡ valueOf r own (slotAccess σ c)
@@ -190,7 +191,7 @@ module _ (P S v : ℕ) (on : Bool) (power-ok : powerOk P ≡ true) (slot-ok : sl
         subst (λ (s : Step). InHand P S v on Recorder (phase s) (leavesOf r own (ReadSlot c) (p .tag) payload) (traced (ReadSlot c) p payload b t))
         (sym (copy-step own val Recorder (ap (λ (x : Own). x .side) o)))
         (rw (e, q) (copy-read P S v on power-ok slot-ok r (real .fixed) t own c o h n (real .queue .ring (length (t .delivered)) (omega arith) (omega arith)) (p .length) lent (l refl)
-        (fitOf (headLength (valueOf r own (ReadSlot c))) (payloadCapacity (own .slot)) (p .length)) refl refl (leavesOf r own (ReadSlot c) (p .tag) payload)))
+        (fitOf (headOf (valueOf r own (ReadSlot c))) (payloadCapacity (own .slot)) (p .length)) refl refl (leavesOf r own (ReadSlot c) (p .tag) payload)))
 
     hand-after : InHand P S v on side (phase next-step) left told
     unfolding moveOf

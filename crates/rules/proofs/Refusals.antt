@@ -26,7 +26,7 @@ use Rattle.rules.specs.Take.{stanceOf}
 use Rattle.rules.specs.Calls.{isResting, isSleeping, sound, ready, reply, at, named, begins, rouses, pushSpec, popSpec, closeSpec, shutSpec, spuriousSpec, timeoutSpec}
 use Rattle.rules.specs.Turn.{taken, refused, turnSpec, turnLeaves, turnBuffer}
 use Rattle.rules.specs.Given.{Checked, passed, fails, holds, Ask, create, attach, turn, Given, created, attached, push-bad, pop-bad, close-bad, shutdown-bad, spurious-bad, timeout-bad, turn-bad, push-closed, pop-closed, close-closed, push-off, push-long, push-begun, pop-begun, close-begun, shutdown-begun, spurious-idle, timeout-idle, spurious-taken, timeout-taken, turn-taken}
-use Rattle.rules.specs.Leaves.{AtRest, Unchanged, Leaves, Lent, LeavesAll}
+use Rattle.rules.specs.Leaves.{AtRest, Unchanged, Leaves, LeavesAll}
 use Rattle.rules.proofs.Answered.{given-first}
 use Rattle.rules.proofs.Leaving.{ends-leaves}
 
@@ -232,31 +232,31 @@ attach-rests : (r : List ℕ) (side : Side) → AtRest (attach r side)
 unfolding attachReply
 attach-rests r side = either-rests (eqb (number (attachAnswer r side)) 0) (joined r side) (unattached side) refl refl
 
-given-leaves : {a : Ask} {x : Answer} → Lent a → Given a x → Leaves x a
+given-leaves : {a : Ask} {x : Answer} → Given a x → Leaves x a
 unfolding attachChecks ringChecks flagChecks pushSpec popSpec closeSpec shutSpec spuriousSpec timeoutSpec
-given-leaves k (created {r} {power} {slot} {notfull} {start} c) = checked-leaves (create r power slot notfull start) tt tt (create-refused r power slot notfull start) c
-given-leaves k (attached {r} {side} c) = checked-leaves (attach r side) tt (attach-rests r side) (attach-refused r side) c
-given-leaves k (push-bad {p} {b} {t} {l} h) = (tt, party-of (bad-begin p (push-tests p b t l) h))
-given-leaves k (pop-bad {p} {b} {l} h) = (tt, party-of (bad-begin p (pop-tests p b l) h))
-given-leaves k (close-bad {side} {p} h) = (tt, party-of (bad-begin p (own-tests side p (p .closed) CloseSet) h))
-given-leaves k (shutdown-bad {side} {p} h) = (tt, party-of (bad-begin p (own-tests side p false (ShutSet false)) h))
-given-leaves k (spurious-bad {side} {p} h) = (tt, party-of (bad-rouse side p (reply (at Look p) GoesOn) h))
-given-leaves k (timeout-bad {side} {p} h) = (tt, party-of (bad-rouse side p (reply (at Rest p) Timeout) h))
-given-leaves k (turn-bad {side} {r} {p} {i} {o} {f} h) = turn-refused side r p i o f h
-given-leaves k (push-closed {p} {b} {t} {l} h c) = (tt, closed-rests Sender p h (closed-begin p (push-tests p b t l) h c))
-given-leaves k (pop-closed {p} {b} {l} h c) = (tt, closed-rests Recorder p h (closed-begin p (pop-tests p b l) h c))
-given-leaves k (close-closed {side} {p} h c) = (tt, closed-rests side p h (closed-begin p (own-tests side p (p .closed) CloseSet) h c))
-given-leaves k (push-off {p} {b} {t} {l} h c o) = (tt, party-of (off-begin p (push-tests p b t l) h c o))
-given-leaves k (push-long {p} {b} {t} {l} h c o n) = (tt, party-of (long-begin p (push-tests p b t l) h c o (ap not n)))
-given-leaves k (push-begun h c o l) = tt
-given-leaves k (pop-begun h c) = tt
-given-leaves k (close-begun h c) = tt
-given-leaves k (shutdown-begun h) = tt
-given-leaves k (spurious-idle {side} {p} h s) = (tt, party-of (idle-rouse side p (reply (at Look p) GoesOn) h s))
-given-leaves k (timeout-idle {side} {p} h s) = (tt, party-of (idle-rouse side p (reply (at Rest p) Timeout) h s))
-given-leaves k (spurious-taken h s) = tt
-given-leaves k (timeout-taken {side} {p} h s) = (tt, ap (λ (x : Reply). x .party .step) (taken-rouse side p (reply (at Rest p) Timeout) h s))
-given-leaves k (turn-taken {side} {r} {p} {i} {o} {f} h e) = ends-leaves side r p i o f h k e
+given-leaves (created {r} {power} {slot} {notfull} {start} c) = checked-leaves (create r power slot notfull start) tt tt (create-refused r power slot notfull start) c
+given-leaves (attached {r} {side} c) = checked-leaves (attach r side) tt (attach-rests r side) (attach-refused r side) c
+given-leaves (push-bad {p} {b} {t} {l} h) = (tt, party-of (bad-begin p (push-tests p b t l) h))
+given-leaves (pop-bad {p} {b} {l} h) = (tt, party-of (bad-begin p (pop-tests p b l) h))
+given-leaves (close-bad {side} {p} h) = (tt, party-of (bad-begin p (own-tests side p (p .closed) CloseSet) h))
+given-leaves (shutdown-bad {side} {p} h) = (tt, party-of (bad-begin p (own-tests side p false (ShutSet false)) h))
+given-leaves (spurious-bad {side} {p} h) = (tt, party-of (bad-rouse side p (reply (at Look p) GoesOn) h))
+given-leaves (timeout-bad {side} {p} h) = (tt, party-of (bad-rouse side p (reply (at Rest p) Timeout) h))
+given-leaves (turn-bad {side} {r} {p} {i} {o} {f} h) = turn-refused side r p i o f h
+given-leaves (push-closed {p} {b} {t} {l} h c) = (tt, closed-rests Sender p h (closed-begin p (push-tests p b t l) h c))
+given-leaves (pop-closed {p} {b} {l} h c) = (tt, closed-rests Recorder p h (closed-begin p (pop-tests p b l) h c))
+given-leaves (close-closed {side} {p} h c) = (tt, closed-rests side p h (closed-begin p (own-tests side p (p .closed) CloseSet) h c))
+given-leaves (push-off {p} {b} {t} {l} h c o) = (tt, party-of (off-begin p (push-tests p b t l) h c o))
+given-leaves (push-long {p} {b} {t} {l} h c o n) = (tt, party-of (long-begin p (push-tests p b t l) h c o (ap not n)))
+given-leaves (push-begun h c o l) = tt
+given-leaves (pop-begun h c) = tt
+given-leaves (close-begun h c) = tt
+given-leaves (shutdown-begun h) = tt
+given-leaves (spurious-idle {side} {p} h s) = (tt, party-of (idle-rouse side p (reply (at Look p) GoesOn) h s))
+given-leaves (timeout-idle {side} {p} h s) = (tt, party-of (idle-rouse side p (reply (at Rest p) Timeout) h s))
+given-leaves (spurious-taken h s) = tt
+given-leaves (timeout-taken {side} {p} h s) = (tt, ap (λ (x : Reply). x .party .step) (taken-rouse side p (reply (at Rest p) Timeout) h s))
+given-leaves (turn-taken {side} {r} {p} {i} {o} {f} h e) = ends-leaves side r p i o f h e
 
 pub leaves-all : LeavesAll
-leaves-all a k = given-leaves k (given-first a)
+leaves-all a = given-leaves (given-first a)

@@ -15,15 +15,14 @@ use Rattle.words.specs.Wrap.{plus}
 use Rattle.words.proofs.Sets.{Apart}
 use Rattle.words.proofs.Wrapped.{plus-differ}
 use Rattle.types.specs.declared.Side.the-variants.{Sender, Recorder}
-use Rattle.types.specs.declared.SlotHead.{SlotHead}
 use Rattle.types.specs.declared.Party.{Party}
 use Rattle.types.specs.declared.Access.{Access}
 use Rattle.types.specs.declared.Access.the-variants.{WriteSlot, StoreCounter}
 use Rattle.layout.specs.Limits.{slotHeadBytes, powerOk, slotOk, capacity}
-use Rattle.layout.specs.Slots.{slotAt, headOf, payloadIn}
+use Rattle.layout.specs.Slots.{slotAt, headWord, headOf, payloadIn}
 use Rattle.layout.proofs.SizeLaws.{capacity-is, power-most, slot-behind, slot-within, slots-apart}
 use Rattle.rules.specs.Access.{slotOf, leavesOf}
-use Rattle.rules.specs.Run.{Note, Trace, published, traced}
+use Rattle.rules.specs.Run.{Note, Trace, Carried, published, traced}
 use Rattle.rules.proofs.After.{Elsewhere, part-after}
 use Rattle.rules.proofs.Kept.{header-in, length-more}
 use Rattle.rules.proofs.Real.{sizes, nth, blank, HoldsAt, Fixed, Queue}
@@ -63,7 +62,7 @@ module _ (P S v : ℕ) (on : Bool) (power-ok : powerOk P ≡ true) (slot-ok : sl
     holds-kept i n a e h =
         let k = slot-kept (plus 64 v i) a e in
         record {
-          head = ap headOf k ∙ h .head;
+          head = ap (λ (s : List ℕ). headOf (headWord s)) k ∙ h .head;
           payload = ap (λ (s : List ℕ). payloadIn s (length (n .body))) k ∙ h .payload;
           tag-small = h .tag-small;
           body-fits = h .body-fits;
@@ -115,7 +114,7 @@ module _ (P S v : ℕ) (on : Bool) (power-ok : powerOk P ≡ true) (slot-ok : sl
               rw (e, last-is (t .sent) (t .hand)) (holds-kept (length (t .sent)) (t .hand) (StoreCounter Sender c) tt hand)
 
       -- the first waiting note delivered
-      pub queue-got : (c : ℕ) (s : SlotHead) → published Recorder s t ≡ told (StoreCounter Recorder c) → length (t .delivered) < length (t .sent)
+      pub queue-got : (c : ℕ) (s : Carried) → published Recorder s t ≡ told (StoreCounter Recorder c) → length (t .delivered) < length (t .sent)
           → nth (t .sent) (length (t .delivered)) ≡ record { tag = s .tag; body = take (s .length) (t .buffer) }
           → Queue P S v on (left (StoreCounter Recorder c)) (published Recorder s t)
       queue-got c s q room first =

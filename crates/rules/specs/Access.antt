@@ -12,8 +12,8 @@ use Rattle.types.specs.declared.Access.the-variants.{None, LoadCounter, LoadFla
 use Rattle.layout.specs.Limits.{payloadCapacity}
 use Rattle.layout.specs.Flags.{worth, setBit}
 use Rattle.layout.specs.Header.{flagsAt, counterAt, bellAt}
-use Rattle.layout.specs.Slots.{slotAt, headOf, slotPut, bufferPut}
-use Rattle.rules.specs.Looks.{headWord, fitOf}
+use Rattle.layout.specs.Slots.{slotAt, headWord, headOf, slotPut, bufferPut}
+use Rattle.rules.specs.Looks.{fitOf}
 
 -- the bytes of the slot of a counter, by a party's own sizes
 abbrev pub placeOf : Own → (count : ℕ) → ℕ
@@ -29,7 +29,7 @@ valueOf region own (LoadCounter side) = leAt 8 region (counterAt side)
 valueOf region own LoadFlags = leAt 4 region flagsAt
 valueOf region own (LoadBell b) = leAt 4 region (bellAt b)
 valueOf region own (WriteSlot n) = 0
-valueOf region own (ReadSlot n) = headWord (headOf (slotOf region own n))
+valueOf region own (ReadSlot n) = headWord (slotOf region own n)
 valueOf region own (StoreCounter side n) = 0
 valueOf region own (RaiseBell b) = 0
 valueOf region own (SetFlag m) = 0
@@ -58,7 +58,7 @@ copiedOut Fits buffer slot length = bufferPut buffer slot length
 
 abbrev pub readOut : (named payloadCapacity : ℕ) → (buffer slot : List ℕ) → List ℕ
 readOut named payloadCapacity buffer slot =
-    copiedOut (fitOf (headOf slot .length) payloadCapacity named) buffer slot (headOf slot .length)
+    copiedOut (fitOf (headOf (headWord slot)) payloadCapacity named) buffer slot (headOf (headWord slot) .length)
 
 unfoldable pub bufferOf : List ℕ → Own → Access → (named : ℕ) → (buffer : List ℕ) → List ℕ
 bufferOf region own None named buffer = buffer

@@ -24,8 +24,9 @@ use Rattle.types.specs.declared.Answer.the-variants.{Done, CorruptIndices, Corr
 use Rattle.layout.specs.Limits.{capacity, payloadCapacity}
 use Rattle.layout.specs.Create.{createChecks, createAnswer}
 use Rattle.layout.specs.Attach.{attachChecks, attachReply}
+use Rattle.layout.specs.Slots.{headOf}
 use Rattle.rules.specs.Sides.{ringBell, sleepBell, rings, waitOp, wakeOp}
-use Rattle.rules.specs.Looks.{roomOf, wasBlocked, doorOf, headLength, fitOf, napOf}
+use Rattle.rules.specs.Looks.{roomOf, wasBlocked, doorOf, fitOf, napOf}
 use Rattle.rules.specs.Take.{stanceOf, moveOf}
 use Rattle.rules.specs.Next.{nextSpec}
 use Rattle.rules.specs.Access.{valueOf}
@@ -50,8 +51,8 @@ pub data EndsWith (p : Party) (v e : ℕ) : Answer → Type 0 where
   -- 7
   corrupt : {first : ℕ} → p .step ≡ ShutWakeNf true first → EndsWith p v e CorruptIndices
   -- 8, 15
-  bad-slot : p .step ≡ Copy → p .own .side ≡ Recorder → fitOf (headLength v) (payloadCapacity (p .own .slot)) (p .length) ≡ Bad → EndsWith p v e CorruptSlot
-  too-small : p .step ≡ Copy → p .own .side ≡ Recorder → fitOf (headLength v) (payloadCapacity (p .own .slot)) (p .length) ≡ Small → EndsWith p v e (OutputTooSmall (headLength v))
+  bad-slot : p .step ≡ Copy → p .own .side ≡ Recorder → fitOf (headOf v) (payloadCapacity (p .own .slot)) (p .length) ≡ Bad → EndsWith p v e CorruptSlot
+  too-small : p .step ≡ Copy → p .own .side ≡ Recorder → fitOf (headOf v) (payloadCapacity (p .own .slot)) (p .length) ≡ Small → EndsWith p v e (OutputTooSmall (headOf v .length))
   -- 9, 10
   full : p .step ≡ Look → p .own .side ≡ Sender → p .blocking ≡ false → roomOf Sender (capacity (p .own .power)) (p .counter) v ≡ Blocked → EndsWith p v e Full
   empty : p .step ≡ Look → p .own .side ≡ Recorder → p .blocking ≡ false → roomOf Recorder (capacity (p .own .power)) (p .counter) v ≡ Blocked → EndsWith p v e Empty

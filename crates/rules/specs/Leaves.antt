@@ -1,7 +1,5 @@
 -- What each answer leaves behind: document 01's paragraph under its table of answers.
 use mathlib.Core.Path.{_≡_}
-use Prim.Native.Nat.{ℕ, _<_}
-use lib.ListN.{getD}
 use Rattle.types.specs.declared.Step.the-variants.{Rest}
 use Rattle.types.specs.declared.Woke.the-variants.{Nobody}
 use Rattle.types.specs.declared.Answer.{Answer}
@@ -77,18 +75,6 @@ Leaves Nothing a = Unchanged a
 Leaves Begun a = BytesKept a
 Leaves GoesOn a = Unit
 
--- a lent region holds bytes
-abbrev pub Lent : Ask → Type 0
-Lent (create r power slot notfull start) = Unit
-Lent (attach r side) = Unit
-Lent (push p blocking tag length) = Unit
-Lent (pop p blocking length) = Unit
-Lent (close side p) = Unit
-Lent (shutdown side p) = Unit
-Lent (spurious side p) = Unit
-Lent (timeout side p) = Unit
-Lent (turn side r p i o f) = (k : ℕ) → getD r k 0 < 256
-
 -- the law of refusals
 abbrev pub LeavesAll : Type 0
-LeavesAll = (a : Ask) → Lent a → Leaves (answered a) a
+LeavesAll = (a : Ask) → Leaves (answered a) a

@@ -1,6 +1,6 @@
 -- What a value that a turn loaded says to a party.
 use mathlib.Core.Bool.{Bool, _||_}
-use Prim.Native.Nat.{ℕ, _+_, _*_, _%_, _/_, _^_}
+use Prim.Native.Nat.{ℕ, _/_}
 use lib.Dec.{ltb, eqb}
 use Rattle.words.specs.Wrap.{minus}
 use Rattle.types.specs.Pick.{pick}
@@ -36,19 +36,13 @@ unfoldable pub doorOf : Side → (flags : ℕ) → Door
 doorOf side flags =
     pick (bitOn (worth Shutdown) flags) Shut (pick (bitOn (worth (closeMark (other side))) flags) Left Open)
 
--- C2: a slot's header as one number, as a turn hands it on
-abbrev pub headWord : SlotHead → ℕ
-headWord head = head .length + 2 ^ 16 * head .tag
-
-abbrev pub headLength : (word : ℕ) → ℕ
-headLength word = word % 2 ^ 16
-
-abbrev pub headTag : (word : ℕ) → ℕ
-headTag word = word / 2 ^ 16 % 2 ^ 16
+-- C2, 8: slot flags 1 to 15 not zero (flag 0 may be set), the zero word not zero, or the length above the payload capacity
+abbrev pub headBad : SlotHead → (payloadCapacity : ℕ) → Bool
+headBad head payloadCapacity = ltb 0 (head .flags / 2) || (ltb 0 (head .zero) || ltb payloadCapacity (head .length))
 
 -- 8 before 15
-unfoldable pub fitOf : (length payloadCapacity buffer : ℕ) → Fit
-fitOf length payloadCapacity buffer = pick (ltb payloadCapacity length) Bad (pick (ltb buffer length) Small Fits)
+unfoldable pub fitOf : SlotHead → (payloadCapacity buffer : ℕ) → Fit
+fitOf head payloadCapacity buffer = pick (headBad head payloadCapacity) Bad (pick (ltb buffer (head .length)) Small Fits)
 
 -- B5, W5: the announced error (0: none), and whether the bell reads the epoch
 unfoldable pub napOf : (error : ℕ) → (same : Bool) → Nap

@@ -11,7 +11,6 @@ use Rattle.types.specs.declared.Side.the-variants.{Sender, Recorder}
 use Rattle.types.specs.declared.Bell.{Bell}
 use Rattle.types.specs.declared.Bell.the-variants.{NotEmpty, NotFull}
 use Rattle.types.specs.declared.Party.{Party}
-use Rattle.types.specs.declared.SlotHead.{SlotHead}
 use Rattle.types.specs.declared.Fault.{Fault}
 use Rattle.types.specs.declared.Fault.the-variants.{Fine, Error}
 use Rattle.types.specs.declared.Step.{Step}
@@ -70,9 +69,14 @@ holding n t = record { buffer = t .buffer; hand = n; sent = t .sent; delivered =
 abbrev pub buffered : List ℕ → Trace → Trace
 buffered b t = record { buffer = b; hand = t .hand; sent = t .sent; delivered = t .delivered; rungSender = t .rungSender; rungRecorder = t .rungRecorder }
 
+-- the length and the tag that a step carries
+pub record Carried : Type 0 where
+  pub length : ℕ
+  pub tag : ℕ
+
 -- it is sent as the push publishes; a pop's note is delivered as it publishes, with the length and the tag that the step
 -- carries and the first bytes of the buffer
-abbrev pub published : Side → SlotHead → Trace → Trace
+abbrev pub published : Side → Carried → Trace → Trace
 published Sender c t = record { buffer = t .buffer; hand = t .hand; sent = t .sent ++ (t .hand ∷ []); delivered = t .delivered; rungSender = t .rungSender; rungRecorder = t .rungRecorder }
 published Recorder c t =
     record {
@@ -89,8 +93,7 @@ abbrev pub counted : Bell → (ℕ → ℕ) → Trace → Trace
 counted NotFull f t = record { buffer = t .buffer; hand = t .hand; sent = t .sent; delivered = t .delivered; rungSender = f (t .rungSender); rungRecorder = t .rungRecorder }
 counted NotEmpty f t = record { buffer = t .buffer; hand = t .hand; sent = t .sent; delivered = t .delivered; rungSender = t .rungSender; rungRecorder = f (t .rungRecorder) }
 
--- the length and the tag that a step carries
-abbrev pub carried : Step → SlotHead
+abbrev pub carried : Step → Carried
 carried Rest = record { length = 0; tag = 0 }
 carried Look = record { length = 0; tag = 0 }
 carried Copy = record { length = 0; tag = 0 }

@@ -22,8 +22,9 @@ use Rattle.types.specs.declared.Answer.the-variants.{Done, CorruptIndices, Corr
 use Rattle.types.specs.declared.Move.{Move}
 use Rattle.types.specs.declared.Move.the-variants.{To, End}
 use Rattle.layout.specs.Limits.{capacity, payloadCapacity}
+use Rattle.layout.specs.Slots.{headOf}
 use Rattle.rules.specs.Sides.{blockedAnswer, ringBell, sleepBell, rings, waitOp, wakeOp}
-use Rattle.rules.specs.Looks.{roomOf, wasBlocked, doorOf, headLength, headTag, fitOf, napOf}
+use Rattle.rules.specs.Looks.{roomOf, wasBlocked, doorOf, fitOf, napOf}
 
 -- a look at the other side's counter: corruption begins a shutdown, a blocked party does what `blocked` says, else it copies
 abbrev pub roomMove : Room → (blocked : Move) → Move
@@ -51,7 +52,7 @@ copyWith Recorder read = read
 
 unfoldable pub copyMove : Own → (buffer word : ℕ) → Move
 copyMove own buffer word =
-    copyWith (own .side) (fitMove (fitOf (headLength word) (payloadCapacity (own .slot)) buffer) (headLength word) (headTag word))
+    copyWith (own .side) (fitMove (fitOf (headOf word) (payloadCapacity (own .slot)) buffer) (headOf word .length) (headOf word .tag))
 
 -- P3, C3
 unfoldable pub publishMove : Own → (length tag : ℕ) → Move

@@ -15,9 +15,8 @@ use Rattle.types.specs.declared.Step.{Step}
 use Rattle.types.specs.declared.Step.the-variants.{Rest, Look, Copy, Publish, Check, Raise, Wake, Gate, Epoch, Again, GateAgain, Wait, Asleep, CloseSet, CloseRaise, CloseWake, ShutSet, ShutRaiseNe, ShutWakeNe, ShutRaiseNf, ShutWakeNf}
 use Rattle.layout.specs.Limits.{slotHeadBytes}
 use Rattle.layout.specs.Header.{flagsAt, counterAt, bellAt}
-use Rattle.layout.specs.Slots.{headOf}
+use Rattle.layout.specs.Slots.{headWord}
 use Rattle.rules.specs.Sides.{other, ringBell, sleepBell}
-use Rattle.rules.specs.Looks.{headWord}
 use Rattle.rules.specs.Access.{placeOf, slotOf}
 use Rattle.rules.specs.Turn.{turnSpec, turnLeaves, turnBuffer}
 
@@ -70,7 +69,7 @@ touchedBytes (aBell b) n = 4
 -- what a turn sees: the other's counter, the flags, the bell that it sleeps on, a slot's header; else nothing
 abbrev pub slotSeen : Side → List ℕ → Party → ℕ
 slotSeen Sender r p = 0
-slotSeen Recorder r p = headWord (headOf (slotOf r (p .own) (p .counter)))
+slotSeen Recorder r p = headWord (slotOf r (p .own) (p .counter))
 
 abbrev pub seenBy : Side → Step → List ℕ → Party → ℕ
 seenBy side Rest r p = 0

@@ -4,7 +4,7 @@ ghost use Prim.Native.Nat.{_+_, _≤_};
 ghost use lib.ListN.{length};
 ghost use Rattle.words.specs.Bytes.{part};
 ghost use Rattle.layout.specs.Limits.{slotHeadBytes};
-ghost use Rattle.layout.specs.Slots.{headOf, bufferPut};
+ghost use Rattle.layout.specs.Slots.{headWord, headOf, bufferPut};
 use types::SlotHead;
 
 // Where the fields of a slot lie, from its start on.
@@ -22,22 +22,32 @@ impl Slot {
     pub const PAYLOAD: usize = 8;
 }
 
-pub fn read_head(slot: &[u8]) -> SlotHead
+// The whole header as one word.
+pub fn read_head(slot: &[u8]) -> u64
     requires { ⌜ slotHeadBytes ≤ length (now slot) ⌝ }
-    ensures { λ r. ⌜ r ≡ headOf (now (slot .entry)) ⌝ }
+    ensures { λ r. ⌜ r ≡ headWord (now (slot .entry)) ⌝ }
 {
-    SlotHead {
-        length: words::load16(slot, Slot::LENGTH),
-        tag: words::load16(slot, Slot::TAG),
-    }
+    words::load64(slot, 0)
 }
 
-// The head of the slot of size bytes at at.
-pub fn head_at(region: &[u8], at: usize, size: usize) -> SlotHead
+// The header of the slot of size bytes at at.
+pub fn head_at(region: &[u8], at: usize, size: usize) -> u64
     requires { ⌜ (slotHeadBytes ≤ size) × (at + size ≤ length (now region)) ⌝ }
-    ensures { λ r. ⌜ r ≡ headOf (part (now (region .entry)) at size) ⌝ }
+    ensures { λ r. ⌜ r ≡ headWord (part (now (region .entry)) at size) ⌝ }
 {
     read_head(&region[at..at + size])
+}
+
+// Length, tag, slot flags and zero word of a header.
+pub fn head_of(word: u64) -> SlotHead
+    ensures { λ r. ⌜ r ≡ headOf word ⌝ }
+{
+    SlotHead {
+        length: (word % 0x1_0000) as u16,
+        tag: (word / 0x1_0000 % 0x1_0000) as u16,
+        flags: (word / 0x1_0000_0000 % 0x1_0000) as u16,
+        zero: (word / 0x1_0000_0000_0000 % 0x1_0000) as u16,
+    }
 }
 
 // Copies the first count bytes of the payload to the buffer's start.

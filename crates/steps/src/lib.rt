@@ -78,10 +78,9 @@ pub fn copy_move(own: Own, buffer: u32, word: u64) -> Move
 {
     let side = own.side;
     let most = sizes::payload_capacity(own.slot);
-    let length = looks::head_length(word);
-    let tag = looks::head_tag(word);
-    let fit = looks::fit_of(length, most, buffer);
-    let read = fit_move(fit, length, tag);
+    let head = slots::head_of(word);
+    let fit = looks::fit_of(head, most, buffer);
+    let read = fit_move(fit, head.length, head.tag);
     copy_with(side, read)
 }
 

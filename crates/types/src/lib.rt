@@ -72,10 +72,12 @@ pub struct Party {
     pub step: Step,
 }
 
-// What a pop reads of a slot's own header.
+// A slot's own header.
 pub struct SlotHead {
     pub length: u16,
     pub tag: u16,
+    pub flags: u16,
+    pub zero: u16,
 }
 
 // Document 01's answers. Done carries the length and the tag of the note that a pop took, and zeros for every other

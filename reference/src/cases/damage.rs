@@ -14,7 +14,8 @@ pub fn list() -> Vec<Case> {
     }
     cases.extend(BAD_LENGTHS.map(bad_slot));
     cases.push(too_small());
-    cases.push(ignored_words());
+    cases.extend((0..64).map(flipped));
+    cases.push(past_the_payload());
     cases.push(own_copy());
     cases.push(counters_seen_at_publish());
     cases.extend([u32::MAX, 0x7FFF_FFFF].map(raised));
@@ -110,18 +111,29 @@ fn too_small() -> Case {
     case.pop(true, 9).turns(Recorder, 4)
 }
 
-fn ignored_words() -> Case {
-    Case::on(
-        "A pop ignores slot flags, the zero word and the bytes past the payload",
-        Ring::SMALL,
-    )
-    .sent(1)
-    .put(Header::SIZE + 4, 4, 0xFFFF_FFFF)
-    .put(Header::SIZE + 11, 5, 0xFF_FFFF_FFFF)
-    .pop(false, 12)
-    .turns(Recorder, 4)
-    .sent(1)
-    .sent(1)
+/// The slot header that one `sent` leaves: three bytes, tag 1.
+const SENT: u64 = 0x1_0003;
+
+/// One bit of a slot's header flipped, for a buffer of no bytes and for one of eight.
+fn flipped(bit: u32) -> Case {
+    let name = format!("C2: bit {bit} of a slot's header is flipped");
+    Case::on(name, Ring::SMALL)
+        .sent(1)
+        .put(Header::SIZE, 8, SENT ^ 1 << bit)
+        .pop(false, 0)
+        .turns(Recorder, 2)
+        .pop(true, 8)
+        .turns(Recorder, 4)
+}
+
+fn past_the_payload() -> Case {
+    Case::on("A pop ignores the bytes past the payload", Ring::SMALL)
+        .sent(1)
+        .put(Header::SIZE + 11, 5, 0xFF_FFFF_FFFF)
+        .pop(false, 12)
+        .turns(Recorder, 4)
+        .sent(1)
+        .sent(1)
 }
 
 /// From attach on a party uses its own sizes and options.

@@ -82,14 +82,16 @@ fn failure(dice: &mut Dice) -> u16 {
     ERRORS[dice.below(ERRORS.len() as u64) as usize]
 }
 
-/// A counter a little off, a slot's length, a bell, or any byte of the header.
+/// A counter a little off, a slot's length, a bit of its flags or zero word, a bell, or any byte
+/// of the header.
 fn damage(dice: &mut Dice, ring: Ring) -> Ask {
     let near = ring.start.wrapping_add(dice.below(6)).wrapping_sub(1);
-    let (at, count, value) = match dice.below(5) {
+    let (at, count, value) = match dice.below(6) {
         0 => (Header::AT_HEAD, 8, near),
         1 => (Header::AT_TAIL, 8, near),
         2 => (Header::SIZE, 2, dice.below(u64::from(ring.slot_size))),
-        3 => (Header::AT_NE, 4, dice.below(4)),
+        3 => (Header::SIZE + 4, 4, 1 << dice.below(32)),
+        4 => (Header::AT_NE, 4, dice.below(4)),
         _ => (dice.below(Header::SIZE as u64) as usize, 1, dice.below(256)),
     };
     Ask::Put {

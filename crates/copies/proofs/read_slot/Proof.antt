@@ -16,21 +16,23 @@ head-at-requires c κs =
 
 deliver-requires : tie.Need-deliver-requires
 deliver-requires c κs =
-    let s = c .before .before .before .before .before .before .before .before .before in
+    let s = c .before .before .before .before .before .before .before .before .before .before in
     let a = s .args in
-    let n = c .before .before .before .before .head-at .result .length in (
-      omega (arith, c .before .before .before .before .before .before .place .ensures, place-in (s .pre .0) (a .count)),
+    let h = c .before .before .before .before .head-of .result in (
+      omega (arith, c .before .before .before .before .before .before .before .place .ensures, place-in (s .pre .0) (a .count)),
       λ e.
-          let f : c .before .before .fit-of .result ≡ fitOf n (payloadCapacity (a .own .slot)) (a .named) =
-          c .before .before .fit-of .ensures ∙ ap (λ (m : ℕ). fitOf n m (a .named)) (c .before .before .before .payload-capacity .ensures) in
-          let w = fit-good n (payloadCapacity (a .own .slot)) (a .named) (sym f ∙ e) in
-          (payload-in (s .pre .0) n (w .0), omega (arith, s .pre .1)),
+          let f : c .before .before .fit-of .result ≡ fitOf h (payloadCapacity (a .own .slot)) (a .named) =
+          c .before .before .fit-of .ensures ∙ ap (λ (m : ℕ). fitOf h m (a .named)) (c .before .before .before .payload-capacity .ensures) in
+          let w = fit-good h (payloadCapacity (a .own .slot)) (a .named) (sym f ∙ e) in
+          (payload-in (s .pre .0) (h .length) (w .0), omega (arith, s .pre .1)),
     )
 
 returns : tie.Need-returns
 returns c =
-    let h = rw (c .before .before .before .before .before .before .before .before .before .before .before .place .ensures) at (c .before .before .before .before .before .before .before .before .before .head-at .ensures) in
-    (rw h, simp (c .before .before .before .before .deliver .ensures, c .before .before .before .before .before .before .before .fit-of .ensures, c .before .before .before .before .before .before .before .before .payload-capacity .ensures, h, c .before .before .before .before .before .before .before .before .before .before .before .place .ensures))
+    let at = c .before .before .before .before .before .before .before .before .before .before .place .ensures in
+    let word = rw at at (c .before .before .before .before .before .before .before .before .head-at .ensures) in
+    let head = rw word at (c .before .before .before .before .before .before .before .head-of .ensures) in
+    (word, simp (c .before .before .deliver .ensures, c .before .before .before .before .before .fit-of .ensures, c .before .before .before .before .before .before .payload-capacity .ensures, head, at))
 
 pub read-slot-spec : {M : Type 1} → statement M
 read-slot-spec =
@@ -41,11 +43,8 @@ read-slot-spec =
     head-at-requires
     (λ c κs. search needs)
     (λ c κs. search needs)
+    (λ c κs. search needs)
     (λ c. search needs)
     deliver-requires
-    (λ c. search needs)
-    (λ c. search needs)
-    (λ c. search needs)
-    (λ c. search needs)
     (λ c. search needs)
     returns)
