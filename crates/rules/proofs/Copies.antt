@@ -1,16 +1,13 @@
 -- A copy turn: a push's slot holds its note, and a pop that fits has the first waiting note in its buffer.
 use mathlib.Core.Path.{_≡_, refl, sym, ap, _∙_}
-use mathlib.Core.Bool.{Bool, true, false, _||_}
+use mathlib.Core.Bool.{Bool, true}
 use mathlib.Core.List.{List, _++_}
 use mathlib.Core.Logic.{_⊎_, inl, inr}
-use Prim.Native.Nat.{ℕ, _+_, _-_, _/_, _^_, _<_, _≤_}
+use Prim.Native.Nat.{ℕ, _+_, _^_, _<_, _≤_}
 use native.Mathlib.Omega.{arith}
-use borrow.Author.Tests.{ltb-false}
-use lib.Dec.{ltb}
 use lib.ListN.{length, drop, length-append}
 use lib.Seq.{take-at}
 use Rattle.words.specs.Wrap.{plus}
-use Rattle.types.specs.Pick.{pick}
 use Rattle.types.specs.declared.Side.the-variants.{Sender, Recorder}
 use Rattle.types.specs.declared.Step.{Step}
 use Rattle.types.specs.declared.Step.the-variants.{Rest, Look, Copy, Publish, Check, Raise, Wake, Gate, Epoch, Again, GateAgain, Wait, Asleep, CloseSet, CloseRaise, CloseWake, ShutSet, ShutRaiseNe, ShutWakeNe, ShutRaiseNf, ShutWakeNf}
@@ -29,6 +26,7 @@ use Rattle.rules.specs.Take.{stepAfter}
 use Rattle.rules.specs.Access.{slotOf, valueOf, leavesOf, bufferOf}
 use Rattle.rules.specs.Run.{Note, Trace, buffered}
 use Rattle.rules.specs.Phase.{phase}
+use Rattle.rules.proofs.FitLaws.{fit-good}
 use Rattle.rules.proofs.Real.{sizes, nth, headed, HoldsAt, InHand, Fixed}
 
 -- a step is the copy or is not
@@ -55,18 +53,6 @@ is-copy (ShutWakeNe q) = inr (λ e. let z : _≡_ {A = ℕ} 0 1 = cc in omega ar
 is-copy (ShutRaiseNf q n) = inr (λ e. let z : _≡_ {A = ℕ} 0 1 = cc in omega arith)
 is-copy (ShutWakeNf q n) = inr (λ e. let z : _≡_ {A = ℕ} 0 1 = cc in omega arith)
 
--- a fit that is good
-pub fit-good : (h : SlotHead) (most named : ℕ) → fitOf h most named ≡ Fits → (h .length ≤ most) × (h .length ≤ named)
-unfolding fitOf
-fit-good h most named e = by (ltb 0 (h .flags / 2)) (ltb 0 (h .zero)) (ltb most (h .length)) (ltb named (h .length)) refl refl e
-  where
-    by : (f z a b : Bool) → ltb most (h .length) ≡ a → ltb named (h .length) ≡ b → pick (f || (z || a)) Bad (pick b Small Fits) ≡ Fits → (h .length ≤ most) × (h .length ≤ named)
-    by true z a b p q e = absurd (let z : _≡_ {A = ℕ} 0 1 = cc in omega arith)
-    by false true a b p q e = absurd (let z : _≡_ {A = ℕ} 0 1 = cc in omega arith)
-    by false false true b p q e = absurd (let z : _≡_ {A = ℕ} 0 1 = cc in omega arith)
-    by false false false true p q e = absurd (let z : _≡_ {A = ℕ} 0 1 = cc in omega arith)
-    by false false false false p q e = (ltb-false most (h .length) p, ltb-false named (h .length) q)
-
 module _ (P S v : ℕ) (on : Bool) (power-ok : powerOk P ≡ true) (slot-ok : slotOk S ≡ true) (r : List ℕ) (fixed : Fixed P S v on r) (t : Trace) where
   slot-in : (c : ℕ) → slotAt P S c + S ≤ length r
   slot-in c = omega (arith, slot-within P power-ok S c, fixed .long)
@@ -88,7 +74,6 @@ module _ (P S v : ℕ) (on : Bool) (power-ok : powerOk P ≡ true) (slot-ok : sl
       rw (o, e) record {
         head = put-head r (slotAt P S (plus 64 v (length (t .sent)))) S tag payload (slot-in (plus 64 v (length (t .sent)))) (in-slot (length payload) f) (short (length payload) f) g;
         payload = put-payload r (slotAt P S (plus 64 v (length (t .sent)))) S tag payload (slot-in (plus 64 v (length (t .sent)))) (in-slot (length payload) f);
-        tag-small = g;
         body-fits = f;
       }
 

@@ -1,10 +1,9 @@
 -- A willing party's copy never ends its call: what lies in the slot fits the slot, and the buffer is big enough.
-use mathlib.Core.Path.{_≡_, sym, ap, _∙_}
+use mathlib.Core.Path.{_≡_, refl, sym, ap, _∙_}
 use mathlib.Core.Bool.{Bool, true}
 use mathlib.Core.List.{List, _∷_, _++_}
 use Prim.Native.Nat.{ℕ, suc, _+_, _-_, _<_, _≤_}
 use native.Mathlib.Omega.{arith}
-use borrow.Author.Tests.{le-ltb}
 use lib.ListN.{length, drop, take-append-drop}
 use lib.Seq.{drop-cons}
 use Rattle.words.specs.Wrap.{plus}
@@ -22,12 +21,9 @@ use Rattle.rules.specs.Next.{slotAccess}
 use Rattle.rules.specs.Access.{valueOf}
 use Rattle.rules.specs.Run.{Note, Trace, World, partyIn}
 use Rattle.rules.specs.Stretch.{Big}
+use Rattle.rules.proofs.FitLaws.{fit-is}
 use Rattle.rules.proofs.Copies.{head-is}
 use Rattle.rules.proofs.Real.{countOf, sizes, roomIn, nth, blank, headed, Real}
-
-fit-is : (n : Note) (most named : ℕ) → length (n .body) ≤ most → length (n .body) ≤ named → fitOf (headed n) most named ≡ Fits
-unfolding fitOf
-fit-is n most named h g = rw (le-ltb most (length (n .body)) h, le-ltb named (length (n .body)) g)
 
 copy-next : (own : Own) (named val : ℕ) (σ : Side) → own .side ≡ σ
     → stepAfter (copyMove own named val) Copy ≡ stepAfter (copyWith σ (fitMove (fitOf (headOf val) (payloadCapacity (own .slot)) named) (headOf val .length) (headOf val .tag))) Copy
@@ -53,7 +49,7 @@ module _ (P S v : ℕ) (on : Bool) (power-ok : powerOk P ≡ true) (slot-ok : sl
       let n : Note = nth (t .sent) (length (t .delivered)) in
       let holds = real .queue .ring (length (t .delivered)) (omega arith) (omega arith) in
       rw (head-is P S v on power-ok slot-ok (w .region) (real .fixed) t own c o e n holds, o)
-      (fit-is n (payloadCapacity S) named (holds .body-fits) (big n _ (first-waits h)))
+      (fit-is (headed n) (payloadCapacity S) named (holds .body-fits) (omega arith) refl (big n _ (first-waits h)))
 
   pub no-spill : (σ : Side) (val : ℕ) → partyIn w σ .own ≡ sizes P S v on σ → partyIn w σ .counter ≡ plus 64 v (countOf σ t)
       → val ≡ valueOf (w .region) (partyIn w σ .own) (slotAccess σ (partyIn w σ .counter)) → 0 < roomIn P S v on σ t → partyIn w σ .step ≡ Copy → Big σ w

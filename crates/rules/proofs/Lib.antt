@@ -1,6 +1,8 @@
+pub mod FitLaws
 pub mod Answered
 pub mod Leaving
 pub mod Refusals
+pub mod SlotAnswers
 pub mod Frames
 pub mod Real
 pub mod After

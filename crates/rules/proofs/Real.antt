@@ -110,7 +110,6 @@ module _ (P S v : ℕ) (on : Bool) where
   pub record HoldsAt (r : List ℕ) (i : ℕ) (n : Note) : Type 0 where
     pub head : headOf (headWord (slotOf r (sizes Sender) (plus 64 v i))) ≡ headed n
     pub payload : payloadIn (slotOf r (sizes Sender) (plus 64 v i)) (length (n .body)) ≡ n .body
-    pub tag-small : n .tag < 2 ^ 16
     pub body-fits : length (n .body) ≤ payloadCapacity S
 
   -- what a side at a store, or behind it, has in hand

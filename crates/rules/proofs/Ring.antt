@@ -64,7 +64,6 @@ module _ (P S v : ℕ) (on : Bool) (power-ok : powerOk P ≡ true) (slot-ok : sl
         record {
           head = ap (λ (s : List ℕ). headOf (headWord s)) k ∙ h .head;
           payload = ap (λ (s : List ℕ). payloadIn s (length (n .body))) k ∙ h .payload;
-          tag-small = h .tag-small;
           body-fits = h .body-fits;
         }
 

@@ -10,6 +10,7 @@ pub mod Bench
 pub mod Touch
 pub mod Given
 pub mod Leaves
+pub mod SlotAnswers
 pub mod Run
 pub mod Phase
 pub mod Premises

@@ -4,7 +4,7 @@ use Prim.Native.Nat.{ℕ}
 use native.Mathlib.Omega.{arith}
 use Rattle.layout.specs.Limits.{payloadCapacity}
 use Rattle.rules.specs.Looks.{fitOf}
-use Rattle.rules.proofs.Copies.{fit-good}
+use Rattle.rules.proofs.FitLaws.{fit-good}
 use Rattle.copies.proofs.Room.{place-in, head-in, payload-in}
 use Rattle.copies.proofs.read_slot.Statement.{statement}
 use Rattle.copies.proofs.read_slot.Tie as tie

@@ -1,0 +1,56 @@
+-- How a note fits, by the fields of its slot's header.
+use mathlib.Core.Path.{_≡_, refl}
+use mathlib.Core.Bool.{Bool, true, false, _||_}
+use mathlib.Core.Logic.{_⊎_, inl, inr}
+use Prim.Native.Nat.{ℕ, _/_, _<_, _≤_}
+use native.Mathlib.Omega.{arith}
+use borrow.Author.Tests.{lt-ltb, le-ltb, ltb-false}
+use lib.Dec.{ltb}
+use Rattle.types.specs.Pick.{pick}
+use Rattle.types.specs.declared.SlotHead.{SlotHead}
+use Rattle.types.specs.declared.Fit.the-variants.{Bad, Small, Fits}
+use Rattle.rules.specs.Looks.{headBad, fitOf}
+
+-- one of three tests
+any-true : (a b c : Bool) → (c ≡ true) ⊎ ((a ≡ true) ⊎ (b ≡ true)) → (a || (b || c)) ≡ true
+any-true true b c e = refl
+any-true false true c e = refl
+any-true false false true e = refl
+any-true false false false (inl e) = e
+any-true false false false (inr (inl e)) = e
+any-true false false false (inr (inr e)) = e
+
+-- how a header fits, by its fields
+module _ (h : SlotHead) (most named : ℕ) where
+  pub fit-bad : (most < h .length) ⊎ ((1 < h .flags) ⊎ (0 < h .zero)) → fitOf h most named ≡ Bad
+  unfolding fitOf
+  fit-bad g = rw (any-true (ltb 0 (h .flags / 2)) (ltb 0 (h .zero)) (ltb most (h .length)) (by g))
+    where
+      by : (most < h .length) ⊎ ((1 < h .flags) ⊎ (0 < h .zero)) → (ltb most (h .length) ≡ true) ⊎ ((ltb 0 (h .flags / 2) ≡ true) ⊎ (ltb 0 (h .zero) ≡ true))
+      by (inl l) = inl (lt-ltb most (h .length) l)
+      by (inr (inl f)) = inr (inl (lt-ltb 0 (h .flags / 2) (omega arith)))
+      by (inr (inr z)) = inr (inr (lt-ltb 0 (h .zero) z))
+
+  module _ (l : h .length ≤ most) (f : h .flags ≤ 1) (z : h .zero ≡ 0) where
+    not-bad : headBad h most ≡ false
+    not-bad = rw (le-ltb 0 (h .flags / 2) (omega arith), le-ltb 0 (h .zero) (omega arith), le-ltb most (h .length) l)
+
+    pub fit-small : named < h .length → fitOf h most named ≡ Small
+    unfolding fitOf
+    fit-small n = rw (not-bad, lt-ltb named (h .length) n)
+
+    pub fit-is : h .length ≤ named → fitOf h most named ≡ Fits
+    unfolding fitOf
+    fit-is n = rw (not-bad, le-ltb named (h .length) n)
+
+-- and what a good fit says of them
+pub fit-good : (h : SlotHead) (most named : ℕ) → fitOf h most named ≡ Fits → (h .length ≤ most) × (h .length ≤ named)
+unfolding fitOf
+fit-good h most named e = by (ltb 0 (h .flags / 2)) (ltb 0 (h .zero)) (ltb most (h .length)) (ltb named (h .length)) refl refl e
+  where
+    by : (f z a b : Bool) → ltb most (h .length) ≡ a → ltb named (h .length) ≡ b → pick (f || (z || a)) Bad (pick b Small Fits) ≡ Fits → (h .length ≤ most) × (h .length ≤ named)
+    by true z a b p q e = absurd (let z : _≡_ {A = ℕ} 0 1 = cc in omega arith)
+    by false true a b p q e = absurd (let z : _≡_ {A = ℕ} 0 1 = cc in omega arith)
+    by false false true b p q e = absurd (let z : _≡_ {A = ℕ} 0 1 = cc in omega arith)
+    by false false false true p q e = absurd (let z : _≡_ {A = ℕ} 0 1 = cc in omega arith)
+    by false false false false p q e = (ltb-false most (h .length) p, ltb-false named (h .length) q)
