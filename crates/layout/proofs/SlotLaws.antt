@@ -72,33 +72,20 @@ module _ (r : List ℕ) (at size tag : ℕ) (payload : List ℕ) (room : at + si
 
   put-length : length payload < 2 ^ 16 → leAt 2 (part (slotPut r at tag payload) at size) 0 ≡ length payload
   unfolding slotBytes
-  put-length h = written 0 (omega arith) ∙ word-here (length payload) (leBytes 2 tag ++ (leBytes 2 0 ++ (leBytes 2 0 ++ payload))) h
+  put-length h = written 0 (omega arith) ∙ word-here (length payload) _ h
 
   put-tag : tag < 2 ^ 16 → leAt 2 (part (slotPut r at tag payload) at size) 2 ≡ tag
   unfolding slotBytes
-  put-tag h =
-      let t : List ℕ = leBytes 2 0 ++ (leBytes 2 0 ++ payload) in
-      written 2 (omega arith) ∙ word-past (length payload) (leBytes 2 tag ++ t) 0 ∙ word-here tag t h
+  put-tag h = written 2 (omega arith) ∙ word-past (length payload) _ 0 ∙ word-here tag _ h
 
   -- slot flags and the zero word
   put-flags : leAt 2 (part (slotPut r at tag payload) at size) 4 ≡ 0
   unfolding slotBytes
-  put-flags =
-      let t : List ℕ = leBytes 2 0 ++ (leBytes 2 0 ++ payload) in
-      written 4 (omega arith)
-      ∙ word-past (length payload) (leBytes 2 tag ++ t) 2
-      ∙ word-past tag t 0
-      ∙ word-here 0 (leBytes 2 0 ++ payload) (omega arith)
+  put-flags = written 4 (omega arith) ∙ word-past (length payload) _ 2 ∙ word-past tag _ 0 ∙ word-here 0 _ (omega arith)
 
   put-zero : leAt 2 (part (slotPut r at tag payload) at size) 6 ≡ 0
   unfolding slotBytes
-  put-zero =
-      let t : List ℕ = leBytes 2 0 ++ (leBytes 2 0 ++ payload) in
-      written 6 (omega arith)
-      ∙ word-past (length payload) (leBytes 2 tag ++ t) 4
-      ∙ word-past tag t 2
-      ∙ word-past 0 (leBytes 2 0 ++ payload) 0
-      ∙ word-here 0 payload (omega arith)
+  put-zero = written 6 (omega arith) ∙ word-past (length payload) _ 4 ∙ word-past tag _ 2 ∙ word-past 0 _ 0 ∙ word-here 0 _ (omega arith)
 
   -- the note's length and tag, and zeros
   pub put-head : length payload < 2 ^ 16 → tag < 2 ^ 16 → headOf (headWord (part (slotPut r at tag payload) at size)) ≡ record { length = length payload; tag = tag; flags = 0; zero = 0 }
