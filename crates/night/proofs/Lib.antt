@@ -1,3 +1,3 @@
 pub mod Blocks
 pub mod Piecewise
-pub mod Moved
+pub mod Left

@@ -4,7 +4,6 @@ ghost use mathlib.Core.List.{_++_};
 ghost use Prim.Native.Nat.{_+_, _*_, _≤_, _<_};
 ghost use lib.ListN.{length, take, drop};
 ghost use lib.Seq.{sets};
-ghost use Rattle.words.specs.Bytes.{part};
 ghost use Rattle.records.specs.Records.{recordBytes, payloadBytes};
 ghost use Rattle.opening.specs.Night.{nightOf};
 ghost use Rattle.script.specs.Script.{nights, reports};
@@ -42,16 +41,6 @@ pub fn play_block(
     bench
 }
 
-// Moves the count bytes from at on to the start.
-fn shift(s: &mut [u8], at: usize, count: usize)
-    requires { ⌜ at + count ≤ length (now s) ⌝ }
-    ensures { λ _. ⌜ now (s .exit) ≡ sets (now (s .entry)) 0 (part (now (s .entry)) at count) ⌝ }
-{
-    for k in 0..count {
-        s[k] = s[at + k];
-    }
-}
-
 // A piece is at most as long as this.
 pub struct Block {}
 
@@ -85,7 +74,7 @@ fn feed_slices(
     let whole = have / Record::BYTES * Record::BYTES;
     let bench = play_block(region, b, payload, buffer, &input[..have], out);
     let left = have - whole;
-    shift(input, whole, left);
+    runs::shift(input, whole, left);
     Fed {
         bench,
         told: whole,

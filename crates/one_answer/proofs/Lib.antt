@@ -22,6 +22,7 @@ pub mod Runs
 pub mod Asked
 pub mod Script
 pub mod Seats
+pub mod Settles
 pub mod Sides
 pub mod Sizes
 pub mod Fills

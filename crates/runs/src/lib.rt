@@ -24,6 +24,16 @@ pub fn copy_out(src: &[u8], at: usize, count: usize, dst: &mut [u8])
     copy_in(dst, 0, &src[at..at + count]);
 }
 
+// Moves the count bytes from at on to the start.
+pub fn shift(s: &mut [u8], at: usize, count: usize)
+    requires { ⌜ at + count ≤ length (now s) ⌝ }
+    ensures { λ _. ⌜ now (s .exit) ≡ sets (now (s .entry)) 0 (part (now (s .entry)) at count) ⌝ }
+{
+    for k in 0..count {
+        s[k] = s[at + k];
+    }
+}
+
 // Zeros over the first count bytes.
 pub fn clear(s: &mut [u8], count: usize)
     requires { ⌜ count ≤ length (now s) ⌝ }

@@ -5,7 +5,7 @@ use native.Mathlib.Omega.{arith}
 use lib.ListN.{length, take, length-drop}
 use lib.Seq.{length-take-le}
 use Rattle.records.specs.Records.{recordBytes}
-use Rattle.night.proofs.Moved.{left-lies}
+use Rattle.night.proofs.Left.{left-lies}
 use Rattle.night.proofs.feed_slices.Statement.{statement}
 use Rattle.night.proofs.feed_slices.Tie as tie
 

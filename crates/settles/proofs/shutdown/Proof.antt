@@ -1,6 +1,6 @@
 use borrow.Author.Needs.{needs}
-use Rattle.bench.proofs.shutdown.Statement.{statement}
-use Rattle.bench.proofs.shutdown.Tie as tie
+use Rattle.settles.proofs.shutdown.Statement.{statement}
+use Rattle.settles.proofs.shutdown.Tie as tie
 
 returns : tie.Need-returns
 returns c = rw (c .settled .ensures, c .before .begin-shutdown .ensures, c .before .before .party-of .ensures)

@@ -1,6 +1,6 @@
 use borrow.Author.Needs.{needs}
-use Rattle.bench.proofs.pop.Statement.{statement}
-use Rattle.bench.proofs.pop.Tie as tie
+use Rattle.settles.proofs.pop.Statement.{statement}
+use Rattle.settles.proofs.pop.Tie as tie
 
 returns : tie.Need-returns
 returns c = rw (c .settled .ensures, c .before .begin-pop .ensures)

@@ -1,6 +1,6 @@
 use borrow.Author.Needs.{needs}
-use Rattle.bench.proofs.close.Statement.{statement}
-use Rattle.bench.proofs.close.Tie as tie
+use Rattle.settles.proofs.close.Statement.{statement}
+use Rattle.settles.proofs.close.Tie as tie
 
 returns : tie.Need-returns
 returns c = rw (c .settled .ensures, c .before .begin-close .ensures, c .before .before .party-of .ensures)

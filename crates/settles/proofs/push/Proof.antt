@@ -1,6 +1,6 @@
 use borrow.Author.Needs.{needs}
-use Rattle.bench.proofs.push.Statement.{statement}
-use Rattle.bench.proofs.push.Tie as tie
+use Rattle.settles.proofs.push.Statement.{statement}
+use Rattle.settles.proofs.push.Tie as tie
 
 returns : tie.Need-returns
 returns c = rw (c .settled .ensures, c .before .begin-push .ensures)

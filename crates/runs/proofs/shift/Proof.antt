@@ -6,9 +6,9 @@ use lib.ListN.{length, take, length-set}
 use lib.Seq.{sets, take-all}
 use Rattle.words.specs.Bytes.{part}
 use Rattle.words.proofs.Sets.{length-part}
-use Rattle.night.proofs.Moved.{moved-more}
-use Rattle.night.proofs.shift.Statement.{statement}
-use Rattle.night.proofs.shift.Tie as tie
+use Rattle.runs.proofs.Turns.{moved-more}
+use Rattle.runs.proofs.shift.Statement.{statement}
+use Rattle.runs.proofs.shift.Tie as tie
 
 abbrev Inv-loop : tie.InvT-loop
 Inv-loop s₀ at count k₀ s k = (k ≤ count) × (length s ≡ length s₀) × (s ≡ sets s₀ 0 (take k (part s₀ at count)))

@@ -1,6 +1,6 @@
 use borrow.Author.Needs.{needs}
-use Rattle.bench.proofs.spurious.Statement.{statement}
-use Rattle.bench.proofs.spurious.Tie as tie
+use Rattle.settles.proofs.spurious.Statement.{statement}
+use Rattle.settles.proofs.spurious.Tie as tie
 
 returns : tie.Need-returns
 returns c = cc

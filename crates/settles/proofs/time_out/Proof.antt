@@ -1,6 +1,6 @@
 use borrow.Author.Needs.{needs}
-use Rattle.bench.proofs.time_out.Statement.{statement}
-use Rattle.bench.proofs.time_out.Tie as tie
+use Rattle.settles.proofs.time_out.Statement.{statement}
+use Rattle.settles.proofs.time_out.Tie as tie
 
 returns : tie.Need-returns
 returns c = rw (c .settled .ensures, c .before .time-out .ensures, c .before .before .party-of .ensures)
