@@ -1,5 +1,5 @@
--- How a note fits, by the fields of its slot's header.
-use mathlib.Core.Path.{_≡_, refl}
+-- How a note fits, by the fields of its slot's header, and where a copy then leads.
+use mathlib.Core.Path.{_≡_, refl, ap}
 use mathlib.Core.Bool.{Bool, true, false, _||_}
 use mathlib.Core.Logic.{_⊎_, inl, inr}
 use Prim.Native.Nat.{ℕ, _/_, _<_, _≤_}
@@ -7,9 +7,14 @@ use native.Mathlib.Omega.{arith}
 use borrow.Author.Tests.{lt-ltb, le-ltb, ltb-false}
 use lib.Dec.{ltb}
 use Rattle.types.specs.Pick.{pick}
+use Rattle.types.specs.declared.Side.{Side}
+use Rattle.types.specs.declared.Own.{Own}
 use Rattle.types.specs.declared.SlotHead.{SlotHead}
 use Rattle.types.specs.declared.Fit.the-variants.{Bad, Small, Fits}
+use Rattle.layout.specs.Limits.{payloadCapacity}
+use Rattle.layout.specs.Slots.{headOf}
 use Rattle.rules.specs.Looks.{headBad, fitOf}
+use Rattle.rules.specs.Steps.{fitMove, copyWith, copyMove}
 
 -- one of three tests
 any-true : (a b c : Bool) → (c ≡ true) ⊎ ((a ≡ true) ⊎ (b ≡ true)) → (a || (b || c)) ≡ true
@@ -54,3 +59,9 @@ fit-good h most named e = by (ltb 0 (h .flags / 2)) (ltb 0 (h .zero)) (ltb most 
     by false false true b p q e = absurd (let z : _≡_ {A = ℕ} 0 1 = cc in omega arith)
     by false false false true p q e = absurd (let z : _≡_ {A = ℕ} 0 1 = cc in omega arith)
     by false false false false p q e = (ltb-false most (h .length) p, ltb-false named (h .length) q)
+
+-- a copy of a party whose side is known
+pub copy-by : (own : Own) (named val : ℕ) (σ : Side) → own .side ≡ σ
+    → copyMove own named val ≡ copyWith σ (fitMove (fitOf (headOf val) (payloadCapacity (own .slot)) named) (headOf val .length) (headOf val .tag))
+unfolding copyMove
+copy-by own named val σ z = ap (λ (x : Side). copyWith x (fitMove (fitOf (headOf val) (payloadCapacity (own .slot)) named) (headOf val .length) (headOf val .tag))) z

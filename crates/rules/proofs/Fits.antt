@@ -2,7 +2,7 @@
 use mathlib.Core.Path.{_≡_, refl, sym, ap, _∙_}
 use mathlib.Core.Bool.{Bool, true}
 use mathlib.Core.List.{List, _∷_, _++_}
-use Prim.Native.Nat.{ℕ, suc, _+_, _-_, _<_, _≤_}
+use Prim.Native.Nat.{ℕ, suc, _+_, _<_, _≤_}
 use native.Mathlib.Omega.{arith}
 use lib.ListN.{length, drop, take-append-drop}
 use lib.Seq.{drop-cons}
@@ -12,24 +12,19 @@ use Rattle.types.specs.declared.Side.the-variants.{Sender, Recorder}
 use Rattle.types.specs.declared.Own.{Own}
 use Rattle.types.specs.declared.Fit.the-variants.{Fits}
 use Rattle.types.specs.declared.Step.the-variants.{Rest, Copy}
+use Rattle.types.specs.declared.Move.{Move}
 use Rattle.layout.specs.Limits.{powerOk, slotOk, payloadCapacity}
 use Rattle.layout.specs.Slots.{headOf}
 use Rattle.rules.specs.Looks.{fitOf}
-use Rattle.rules.specs.Steps.{copyWith, copyMove, fitMove}
+use Rattle.rules.specs.Steps.{copyMove}
 use Rattle.rules.specs.Take.{stepAfter}
 use Rattle.rules.specs.Next.{slotAccess}
 use Rattle.rules.specs.Access.{valueOf}
 use Rattle.rules.specs.Run.{Note, Trace, World, partyIn}
 use Rattle.rules.specs.Stretch.{Big}
-use Rattle.rules.proofs.FitLaws.{fit-is}
+use Rattle.rules.proofs.FitLaws.{fit-is, copy-by}
 use Rattle.rules.proofs.Copies.{head-is}
 use Rattle.rules.proofs.Real.{countOf, sizes, roomIn, nth, blank, headed, Real}
-
-copy-next : (own : Own) (named val : ℕ) (σ : Side) → own .side ≡ σ
-    → stepAfter (copyMove own named val) Copy ≡ stepAfter (copyWith σ (fitMove (fitOf (headOf val) (payloadCapacity (own .slot)) named) (headOf val .length) (headOf val .tag))) Copy
-unfolding copyMove
-copy-next own named val σ z =
-    ap (λ (x : Side). stepAfter (copyWith x (fitMove (fitOf (headOf val) (payloadCapacity (own .slot)) named) (headOf val .length) (headOf val .tag))) Copy) z
 
 module _ (P S v : ℕ) (on : Bool) (power-ok : powerOk P ≡ true) (slot-ok : slotOk S ≡ true) (w : World) (real : Real P S v on w) where
   abbrev t : Trace
@@ -55,9 +50,9 @@ module _ (P S v : ℕ) (on : Bool) (power-ok : powerOk P ≡ true) (slot-ok : sl
       → val ≡ valueOf (w .region) (partyIn w σ .own) (slotAccess σ (partyIn w σ .counter)) → 0 < roomIn P S v on σ t → partyIn w σ .step ≡ Copy → Big σ w
       → stepAfter (copyMove (partyIn w σ .own) (partyIn w σ .length) val) Copy ≡ Rest → ⊥
   no-spill Sender val o e q h at big rest =
-      let u = sym (copy-next (partyIn w Sender .own) (partyIn w Sender .length) val Sender (ap (λ (x : Own). x .side) o)) ∙ rest in
+      let u = sym (ap (λ (m : Move). stepAfter m Copy) (copy-by (partyIn w Sender .own) (partyIn w Sender .length) val Sender (ap (λ (x : Own). x .side) o))) ∙ rest in
       let z : _≡_ {A = ℕ} 0 1 = cc in omega arith
   no-spill Recorder val o e q h at big rest =
       let f = good-fit (partyIn w Recorder .own) (partyIn w Recorder .counter) (partyIn w Recorder .length) o e h (big at) in
-      let u = rw (q, f) at (sym (copy-next (partyIn w Recorder .own) (partyIn w Recorder .length) val Recorder (ap (λ (x : Own). x .side) o)) ∙ rest) in
+      let u = rw (q, f) at (sym (ap (λ (m : Move). stepAfter m Copy) (copy-by (partyIn w Recorder .own) (partyIn w Recorder .length) val Recorder (ap (λ (x : Own). x .side) o))) ∙ rest) in
       let z : _≡_ {A = ℕ} 0 1 = cc in omega arith

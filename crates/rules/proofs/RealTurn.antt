@@ -18,6 +18,7 @@ use Rattle.types.specs.declared.Party.{Party}
 use Rattle.types.specs.declared.Fault.{Fault}
 use Rattle.types.specs.declared.Woke.{Woke}
 use Rattle.types.specs.declared.Step.{Step}
+use Rattle.types.specs.declared.Move.{Move}
 use Rattle.types.specs.declared.Step.the-variants.{Rest, Look, Copy, Publish, Check, Raise, Wake, Gate, Epoch, Again, GateAgain, Wait, Asleep, CloseSet, CloseRaise, CloseWake, ShutSet, ShutRaiseNe, ShutWakeNe, ShutRaiseNf, ShutWakeNf}
 use Rattle.types.specs.declared.Access.{Access}
 use Rattle.types.specs.declared.Access.the-variants.{WriteSlot, ReadSlot}
@@ -27,7 +28,7 @@ use Rattle.layout.proofs.SizeLaws.{capacity-room, slot-least}
 use Rattle.layout.specs.Slots.{headOf}
 use Rattle.rules.specs.Sides.{other, rings, sleepBell}
 use Rattle.rules.specs.Looks.{roomOf, wasBlocked, fitOf}
-use Rattle.rules.specs.Steps.{copyWith, copyMove, fitMove}
+use Rattle.rules.specs.Steps.{copyMove}
 use Rattle.rules.specs.Take.{stanceOf, counterAfter, stepAfter, moveAt, moveOf}
 use Rattle.rules.specs.Next.{slotAccess, nextAt, nextSpec}
 use Rattle.rules.specs.Access.{valueOf, leavesOf, bufferOf}
@@ -43,6 +44,7 @@ use Rattle.rules.proofs.After.{bell-after, bell-by-small}
 use Rattle.rules.proofs.Kept.{header-in, fixed-kept, counts-own, counts-other, word-own, word-other}
 use Rattle.rules.proofs.Seats.{moved, Roused, roused, roused-elim, seated-own, seated-other, since-own, since-other}
 use Rattle.rules.proofs.Hands.{in-hand-none, queue-kept, room-own, room-other, hand-own, hand-other}
+use Rattle.rules.proofs.FitLaws.{copy-by}
 use Rattle.rules.proofs.Copies.{copy-written, copy-read, is-copy}
 use Rattle.rules.proofs.Taken.{turnWorld, turn-refused, seat-own, seat-other, turn-taken, attached-here, length-ok, lent-ok}
 use Rattle.rules.proofs.Real.{countOf, HasRoom, Since, sizes, roomIn, nth, InHand, Queue, Side-good, Real}
@@ -171,25 +173,18 @@ module _ (P S v : ℕ) (on : Bool) (power-ok : powerOk P ≡ true) (slot-ok : sl
     queue-after =
         queue-kept P S v on power-ok slot-ok r p payload (real .fixed) t buffer (real .queue) side (p .step) a refl own-is counter-is d fits (mine .room) (mine .hand)
 
-    -- where a copy leads, by the side
-    copy-step : (own : Own) (val : ℕ) (σ : Side) → own .side ≡ σ
-        → stepAfter (copyMove own (p .length) val) Copy ≡ stepAfter (copyWith σ (fitMove (fitOf (headOf val) (payloadCapacity (own .slot)) (p .length)) (headOf val .length) (headOf val .tag))) Copy
-    unfolding copyMove
-    copy-step own val σ z =
-        ap (λ (x : Side). stepAfter (copyWith x (fitMove (fitOf (headOf val) (payloadCapacity (own .slot)) (p .length)) (headOf val .length) (headOf val .tag))) Copy) z
-
     -- the hand after a copy
     copy-hand : (σ : Side) (own : Own) (c val : ℕ) → own ≡ sizes P S v on σ → c ≡ plus 64 v (countOf σ t) → val ≡ valueOf r own (slotAccess σ c)
         → (σ ≡ Sender → length payload ≤ payloadCapacity S) → (σ ≡ Recorder → length lent ≡ p .length) → HasRoom copying (roomIn P S v on σ t) → (buffer : List ℕ) → buffer ≡ bufferOf r own (slotAccess σ c) (p .length) lent
         → InHand P S v on σ (phase (stepAfter (copyMove own (p .length) val) Copy)) (leavesOf r own (slotAccess σ c) (p .tag) payload) (traced (slotAccess σ c) p payload buffer t)
     copy-hand Sender own c val o h e f l k b q =
         subst (λ (s : Step). InHand P S v on Sender (phase s) (leavesOf r own (WriteSlot c) (p .tag) payload) (traced (WriteSlot c) p payload b t))
-        (sym (copy-step own val Sender (ap (λ (x : Own). x .side) o)))
+        (sym (ap (λ (m : Move). stepAfter m Copy) (copy-by own (p .length) val Sender (ap (λ (x : Own). x .side) o))))
         (copy-written P S v on power-ok slot-ok r (real .fixed) t own c (p .tag) payload o h (mine .tag-small) (f refl))
     copy-hand Recorder own c val o h e f l k b q =
         let n : Note = nth (t .sent) (length (t .delivered)) in
         subst (λ (s : Step). InHand P S v on Recorder (phase s) (leavesOf r own (ReadSlot c) (p .tag) payload) (traced (ReadSlot c) p payload b t))
-        (sym (copy-step own val Recorder (ap (λ (x : Own). x .side) o)))
+        (sym (ap (λ (m : Move). stepAfter m Copy) (copy-by own (p .length) val Recorder (ap (λ (x : Own). x .side) o))))
         (rw (e, q) (copy-read P S v on power-ok slot-ok r (real .fixed) t own c o h n (real .queue .ring (length (t .delivered)) (omega arith) (omega arith)) (p .length) lent (l refl)
         (fitOf (headOf (valueOf r own (ReadSlot c))) (payloadCapacity (own .slot)) (p .length)) refl refl (leavesOf r own (ReadSlot c) (p .tag) payload)))
 

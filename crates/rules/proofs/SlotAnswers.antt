@@ -23,13 +23,13 @@ use Rattle.layout.specs.Limits.{payloadCapacity}
 use Rattle.layout.specs.Slots.{headOf}
 use Rattle.layout.proofs.SlotLaws.{head-fields}
 use Rattle.rules.specs.Looks.{fitOf}
-use Rattle.rules.specs.Steps.{fitMove, copyMove}
+use Rattle.rules.specs.Steps.{fitMove}
 use Rattle.rules.specs.Take.{stepAfter, answerOf, moveOf, takeSpec}
 use Rattle.rules.specs.Next.{slotAccess, nextSpec}
 use Rattle.rules.specs.Access.{placeOf, slotOf, valueOf}
 use Rattle.rules.specs.Turn.{errorOf, taken, actSpec}
 use Rattle.rules.specs.SlotAnswers.{word, Answers, AnswersBySlot}
-use Rattle.rules.proofs.FitLaws.{fit-bad, fit-small, fit-is}
+use Rattle.rules.proofs.FitLaws.{fit-bad, fit-small, fit-is, copy-by}
 use Rattle.rules.proofs.Leaving.{turn-is, next-is}
 
 part-bytes : (r : List ℕ) (i n : ℕ) → ((k : ℕ) → getD r k 0 < 256) → (k : ℕ) → getD (part r i n) k 0 < 256
@@ -42,9 +42,9 @@ part-bytes r i n h k = by (decLt k n)
         rw (List·getD-eq-default (part r i n) 0 m) (omega arith)
 
 -- where a pop's copy leads
-copy-move : (p : Party) (v e : ℕ) → p .own .side ≡ Recorder → p .step ≡ Copy → moveOf p v e ≡ fitMove (fitOf (headOf v) (payloadCapacity (p .own .slot)) (p .length)) (headOf v .length) (headOf v .tag)
-unfolding moveOf copyMove
-copy-move p v e q s = rw (s, q)
+pop-move : (p : Party) (v e : ℕ) → p .own .side ≡ Recorder → p .step ≡ Copy → moveOf p v e ≡ fitMove (fitOf (headOf v) (payloadCapacity (p .own .slot)) (p .length)) (headOf v .length) (headOf v .tag)
+unfolding moveOf
+pop-move p v e q s = rw s (copy-by (p .own) (p .length) v Recorder q)
 
 module _ (side : Side) (r : List ℕ) (p : Party) (i o : List ℕ) (f : Fault) (bytes : (k : ℕ) → getD r k 0 < 256) (g : taken side r p i o f ≡ true) (q : p .own .side ≡ Recorder) (s : p .step ≡ Copy) where
   abbrev value : ℕ
@@ -64,7 +64,7 @@ module _ (side : Side) (r : List ℕ) (p : Party) (i o : List ℕ) (f : Fault) (
       → Answers side r p i o f (answerOf (fitMove t (header .length) (header .tag))) (stepAfter (fitMove t (header .length) (header .tag)) Copy)
   unfolding actSpec takeSpec
   told t h =
-      let m : moveOf p value (errorOf f) ≡ fitMove t (header .length) (header .tag) = copy-move p value (errorOf f) q s ∙ rw (header-is, h) in
+      let m : moveOf p value (errorOf f) ≡ fitMove t (header .length) (header .tag) = pop-move p value (errorOf f) q s ∙ rw (header-is, h) in
       (ap (λ (x : Turned). x .answer) (turn-is side r p i o f g) ∙ ap answerOf m, ap (λ (x : Turned). x .party .step) (turn-is side r p i o f g) ∙ rw (m, s))
 
 pub by-slot : (side : Side) (r : List ℕ) (p : Party) (i o : List ℕ) (f : Fault) → AnswersBySlot side r p i o f
