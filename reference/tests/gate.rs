@@ -17,6 +17,7 @@ const PROVED: &str = "printf 'one proved\\ntwo proved\\n7 passed, 0 failed\\n'";
 struct Tools {
     format: &'static str,
     stated: &'static str,
+    places: &'static str,
     pictures: &'static str,
     prove: &'static str,
     tests: &'static str,
@@ -28,6 +29,7 @@ struct Tools {
 const GOOD: Tools = Tools {
     format: "exit 0",
     stated: "exit 0",
+    places: "exit 0",
     pictures: "exit 0",
     prove: PROVED,
     tests: "exit 0",
@@ -43,6 +45,7 @@ fn folder(name: &str, tools: &Tools) -> PathBuf {
     }
     fs::write(folder.join(".ci/run"), fs::read(GATE).unwrap()).unwrap();
     executable(&folder.join(".ci/stated"), tools.stated);
+    executable(&folder.join(".ci/places"), tools.places);
     executable(&folder.join("tools/pictures"), tools.pictures);
     let rt = format!(
         "case \"$*\" in\n'fmt --check') {} ;;\nci) {} ;;\n*) exit 99 ;;\nesac",
@@ -153,6 +156,13 @@ fn whatever_fails_fails_the_gate() {
             "stated",
             Tools {
                 stated: bad,
+                ..GOOD
+            },
+        ),
+        (
+            "places",
+            Tools {
+                places: bad,
                 ..GOOD
             },
         ),
