@@ -208,3 +208,39 @@ fn whatever_fails_fails_the_gate() {
         assert!(!lines.iter().any(|line| line.contains("passed")), "{name}");
     }
 }
+
+/// What `.ci/places` says of one edit of a file: none, or the one line that names it.
+fn places(name: &str, edit: &str) -> (Option<i32>, String) {
+    let folder = PathBuf::from(env!("CARGO_TARGET_TMPDIR")).join(format!("places-{name}"));
+    for part in [".ci", "crates/one/src", "crates/one/must-fail"] {
+        fs::create_dir_all(folder.join(part)).unwrap();
+    }
+    let script = concat!(env!("CARGO_MANIFEST_DIR"), "/../.ci/places");
+    fs::write(folder.join(".ci/places"), fs::read(script).unwrap()).unwrap();
+    fs::write(folder.join("crates/one/src/lib.rt"), "a = 1;\nb = 1;\n").unwrap();
+    fs::write(folder.join("crates/one/must-fail/it.edit"), edit).unwrap();
+    let output = output(Command::new("bash").arg(folder.join(".ci/places")));
+    (
+        output.status.code(),
+        String::from_utf8(output.stderr).unwrap(),
+    )
+}
+
+#[test]
+fn an_edit_names_a_place_that_occurs_once() {
+    let edit = |lines: &str| format!("# why\nfile: src/lib.rt\n{lines}");
+    let good = edit("old: a = 1\nnew: a = 2\n");
+    assert_eq!(places("once", &good), (Some(0), String::new()));
+    // The second place is looked for where the first was changed already.
+    let after = edit("old: a = 1\nnew: a = 2\nold: = 1\nnew: = 3\n");
+    assert_eq!(places("after", &after), (Some(0), String::new()));
+    for (name, count, old) in [("twice", 2, "= 1"), ("gone", 0, "c = 1")] {
+        let (status, said) = places(name, &edit(&format!("old: {old}\nnew: d\n")));
+        assert_eq!(status, Some(1), "{name}");
+        let expected =
+            format!("crates/one/must-fail/it.edit: its place occurs {count} times: {old}\n");
+        assert_eq!(said, expected);
+    }
+    let elsewhere = "file: src/other.rt\nold: a = 1\nnew: a = 2\n";
+    assert_eq!(places("elsewhere", elsewhere).0, Some(1));
+}

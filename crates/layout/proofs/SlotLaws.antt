@@ -1,4 +1,4 @@
--- The laws of a slot: what a write left is read back, and nothing else is touched or read.
+-- The laws of a slot: its header's fields; what a write left is read back, and nothing else is touched.
 use mathlib.Core.Path.{_≡_, ap, _∙_}
 use mathlib.Core.List.{List, _++_, append-assoc}
 use Prim.Native.Nat.{ℕ, _+_, _*_, _%_, _/_, _^_, _≤_, _<_}

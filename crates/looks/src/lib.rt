@@ -24,19 +24,20 @@ pub fn door_of(side: Side, flags: u64) -> Door
     if left { Door::Left } else { Door::Open }
 }
 
-// C2, 8: slot flags 1 to 15, the zero word, the length. Flag 0 may be set.
+// C2's grounds of 8. Slot flag 0 may be set.
 fn is_bad(head: SlotHead, most: u32) -> bool
     ensures { λ r. ⌜ r ≡ headBad head most ⌝ }
 {
+    let long = most < (head.length as u32);
     let flagged = 0 < head.flags / 2;
     let filled = 0 < head.zero;
+    if long {
+        return true;
+    }
     if flagged {
         return true;
     }
-    if filled {
-        return true;
-    }
-    most < (head.length as u32)
+    filled
 }
 
 // C2: 8 before 15.

@@ -27,7 +27,7 @@ use Rattle.rules.specs.Access.{slotOf, valueOf, leavesOf, bufferOf}
 use Rattle.rules.specs.Run.{Note, Trace, buffered}
 use Rattle.rules.specs.Phase.{phase}
 use Rattle.rules.proofs.FitLaws.{fit-good}
-use Rattle.rules.proofs.Real.{sizes, nth, headed, HoldsAt, InHand, Fixed}
+use Rattle.rules.proofs.Real.{sizes, nth, noteHead, HoldsAt, InHand, Fixed}
 
 -- a step is the copy or is not
 pub is-copy : (s : Step) → (s ≡ Copy) ⊎ (s ≡ Copy → ⊥)
@@ -88,12 +88,12 @@ module _ (P S v : ℕ) (on : Bool) (power-ok : powerOk P ≡ true) (slot-ok : sl
     abbrev head : SlotHead
     head = headOf (valueOf r own (ReadSlot c))
 
-    pub head-is : head ≡ headed n
+    pub head-is : head ≡ noteHead n
     unfolding valueOf
     head-is = ap (λ (s : List ℕ). headOf (headWord s)) slot-is ∙ holds .head
 
     -- what a copy that fits leaves in the buffer
-    filled : (named : ℕ) (lent : List ℕ) → fitOf (headed n) (payloadCapacity (own .slot)) named ≡ Fits → bufferOf r own (ReadSlot c) named lent ≡ n .body ++ drop (length (n .body)) lent
+    filled : (named : ℕ) (lent : List ℕ) → fitOf (noteHead n) (payloadCapacity (own .slot)) named ≡ Fits → bufferOf r own (ReadSlot c) named lent ≡ n .body ++ drop (length (n .body)) lent
     unfolding valueOf bufferOf bufferPut
     filled named lent g = rw (head-is, g, slot-is, holds .payload)
 
@@ -103,7 +103,7 @@ module _ (P S v : ℕ) (on : Bool) (power-ok : powerOk P ≡ true) (slot-ok : sl
     copy-read named lent long Bad g first r′ = tt
     copy-read named lent long Small g first r′ = tt
     copy-read named lent long Fits g first r′ =
-        let k : fitOf (headed n) (payloadCapacity (own .slot)) named ≡ Fits = rw head-is at g in
-        let s = fit-good (headed n) (payloadCapacity (own .slot)) named k in
+        let k : fitOf (noteHead n) (payloadCapacity (own .slot)) named ≡ Fits = rw head-is at g in
+        let s = fit-good (noteHead n) (payloadCapacity (own .slot)) named k in
         rw (head-is, filled named lent k)
         (rw length-append (omega arith), first ∙ ap (λ (b : List ℕ). record { tag = n .tag; body = b }) (sym (take-at (n .body) (drop (length (n .body)) lent) (length (n .body)) refl)))

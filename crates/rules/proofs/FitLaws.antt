@@ -17,7 +17,7 @@ use Rattle.rules.specs.Looks.{headBad, fitOf}
 use Rattle.rules.specs.Steps.{fitMove, copyWith, copyMove}
 
 -- one of three tests
-any-true : (a b c : Bool) → (c ≡ true) ⊎ ((a ≡ true) ⊎ (b ≡ true)) → (a || (b || c)) ≡ true
+any-true : (a b c : Bool) → (a ≡ true) ⊎ ((b ≡ true) ⊎ (c ≡ true)) → (a || (b || c)) ≡ true
 any-true true b c e = refl
 any-true false true c e = refl
 any-true false false true e = refl
@@ -27,18 +27,21 @@ any-true false false false (inr (inr e)) = e
 
 -- how a header fits, by its fields
 module _ (h : SlotHead) (most named : ℕ) where
-  pub fit-bad : (most < h .length) ⊎ ((1 < h .flags) ⊎ (0 < h .zero)) → fitOf h most named ≡ Bad
-  unfolding fitOf
-  fit-bad g = rw (any-true (ltb 0 (h .flags / 2)) (ltb 0 (h .zero)) (ltb most (h .length)) (by g))
+  is-bad : (most < h .length) ⊎ ((1 < h .flags) ⊎ (0 < h .zero)) → headBad h most ≡ true
+  is-bad g = any-true (ltb most (h .length)) (ltb 0 (h .flags / 2)) (ltb 0 (h .zero)) (by g)
     where
       by : (most < h .length) ⊎ ((1 < h .flags) ⊎ (0 < h .zero)) → (ltb most (h .length) ≡ true) ⊎ ((ltb 0 (h .flags / 2) ≡ true) ⊎ (ltb 0 (h .zero) ≡ true))
       by (inl l) = inl (lt-ltb most (h .length) l)
       by (inr (inl f)) = inr (inl (lt-ltb 0 (h .flags / 2) (omega arith)))
       by (inr (inr z)) = inr (inr (lt-ltb 0 (h .zero) z))
 
+  pub fit-bad : (most < h .length) ⊎ ((1 < h .flags) ⊎ (0 < h .zero)) → fitOf h most named ≡ Bad
+  unfolding fitOf
+  fit-bad g = rw (is-bad g)
+
   module _ (l : h .length ≤ most) (f : h .flags ≤ 1) (z : h .zero ≡ 0) where
     not-bad : headBad h most ≡ false
-    not-bad = rw (le-ltb 0 (h .flags / 2) (omega arith), le-ltb 0 (h .zero) (omega arith), le-ltb most (h .length) l)
+    not-bad = rw (le-ltb most (h .length) l, le-ltb 0 (h .flags / 2) (omega arith), le-ltb 0 (h .zero) (omega arith))
 
     pub fit-small : named < h .length → fitOf h most named ≡ Small
     unfolding fitOf
@@ -51,14 +54,13 @@ module _ (h : SlotHead) (most named : ℕ) where
 -- and what a good fit says of them
 pub fit-good : (h : SlotHead) (most named : ℕ) → fitOf h most named ≡ Fits → (h .length ≤ most) × (h .length ≤ named)
 unfolding fitOf
-fit-good h most named e = by (ltb 0 (h .flags / 2)) (ltb 0 (h .zero)) (ltb most (h .length)) (ltb named (h .length)) refl refl e
+fit-good h most named e = by (ltb most (h .length)) (headBad h most) (ltb named (h .length)) refl refl refl e
   where
-    by : (f z a b : Bool) → ltb most (h .length) ≡ a → ltb named (h .length) ≡ b → pick (f || (z || a)) Bad (pick b Small Fits) ≡ Fits → (h .length ≤ most) × (h .length ≤ named)
-    by true z a b p q e = absurd (let z : _≡_ {A = ℕ} 0 1 = cc in omega arith)
-    by false true a b p q e = absurd (let z : _≡_ {A = ℕ} 0 1 = cc in omega arith)
-    by false false true b p q e = absurd (let z : _≡_ {A = ℕ} 0 1 = cc in omega arith)
-    by false false false true p q e = absurd (let z : _≡_ {A = ℕ} 0 1 = cc in omega arith)
-    by false false false false p q e = (ltb-false most (h .length) p, ltb-false named (h .length) q)
+    by : (l a b : Bool) → ltb most (h .length) ≡ l → headBad h most ≡ a → ltb named (h .length) ≡ b → pick a Bad (pick b Small Fits) ≡ Fits → (h .length ≤ most) × (h .length ≤ named)
+    by l true b p q r e = absurd (let z : _≡_ {A = ℕ} 0 1 = cc in omega arith)
+    by l false true p q r e = absurd (let z : _≡_ {A = ℕ} 0 1 = cc in omega arith)
+    by true false false p q r e = absurd (let u = rw p at q in let z : _≡_ {A = ℕ} 0 1 = cc in omega arith)
+    by false false false p q r e = (ltb-false most (h .length) p, ltb-false named (h .length) r)
 
 -- a copy of a party whose side is known
 pub copy-by : (own : Own) (named val : ℕ) (σ : Side) → own .side ≡ σ

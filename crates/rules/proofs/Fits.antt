@@ -24,7 +24,7 @@ use Rattle.rules.specs.Run.{Note, Trace, World, partyIn}
 use Rattle.rules.specs.Stretch.{Big}
 use Rattle.rules.proofs.FitLaws.{fit-is, copy-by}
 use Rattle.rules.proofs.Copies.{head-is}
-use Rattle.rules.proofs.Real.{countOf, sizes, roomIn, nth, blank, headed, Real}
+use Rattle.rules.proofs.Real.{countOf, sizes, roomIn, nth, blank, noteHead, Real}
 
 module _ (P S v : ℕ) (on : Bool) (power-ok : powerOk P ≡ true) (slot-ok : slotOk S ≡ true) (w : World) (real : Real P S v on w) where
   abbrev t : Trace
@@ -44,7 +44,7 @@ module _ (P S v : ℕ) (on : Bool) (power-ok : powerOk P ≡ true) (slot-ok : sl
       let n : Note = nth (t .sent) (length (t .delivered)) in
       let holds = real .queue .ring (length (t .delivered)) (omega arith) (omega arith) in
       rw (head-is P S v on power-ok slot-ok (w .region) (real .fixed) t own c o e n holds, o)
-      (fit-is (headed n) (payloadCapacity S) named (holds .body-fits) (omega arith) refl (big n _ (first-waits h)))
+      (fit-is (noteHead n) (payloadCapacity S) named (holds .body-fits) (omega arith) refl (big n _ (first-waits h)))
 
   pub no-spill : (σ : Side) (val : ℕ) → partyIn w σ .own ≡ sizes P S v on σ → partyIn w σ .counter ≡ plus 64 v (countOf σ t)
       → val ≡ valueOf (w .region) (partyIn w σ .own) (slotAccess σ (partyIn w σ .counter)) → 0 < roomIn P S v on σ t → partyIn w σ .step ≡ Copy → Big σ w

@@ -91,8 +91,8 @@ abbrev pub nth : List Note → ℕ → Note
 nth notes i = getD notes i blank
 
 -- the slot header of a note
-abbrev pub headed : Note → SlotHead
-headed n = record { length = length (n .body); tag = n .tag; flags = 0; zero = 0 }
+abbrev pub noteHead : Note → SlotHead
+noteHead n = record { length = length (n .body); tag = n .tag; flags = 0; zero = 0 }
 
 module _ (P S v : ℕ) (on : Bool) where
   abbrev pub cap : ℕ
@@ -108,7 +108,7 @@ module _ (P S v : ℕ) (on : Bool) where
 
   -- the slot of the i-th note holds it
   pub record HoldsAt (r : List ℕ) (i : ℕ) (n : Note) : Type 0 where
-    pub head : headOf (headWord (slotOf r (sizes Sender) (plus 64 v i))) ≡ headed n
+    pub head : headOf (headWord (slotOf r (sizes Sender) (plus 64 v i))) ≡ noteHead n
     pub payload : payloadIn (slotOf r (sizes Sender) (plus 64 v i)) (length (n .body)) ≡ n .body
     pub body-fits : length (n .body) ≤ payloadCapacity S
 

@@ -18,14 +18,14 @@ use Rattle.types.specs.declared.Party.{Party}
 use Rattle.types.specs.declared.Fault.{Fault}
 use Rattle.types.specs.declared.Woke.{Woke}
 use Rattle.types.specs.declared.Step.{Step}
-use Rattle.types.specs.declared.Move.{Move}
 use Rattle.types.specs.declared.Step.the-variants.{Rest, Look, Copy, Publish, Check, Raise, Wake, Gate, Epoch, Again, GateAgain, Wait, Asleep, CloseSet, CloseRaise, CloseWake, ShutSet, ShutRaiseNe, ShutWakeNe, ShutRaiseNf, ShutWakeNf}
+use Rattle.types.specs.declared.Move.{Move}
 use Rattle.types.specs.declared.Access.{Access}
 use Rattle.types.specs.declared.Access.the-variants.{WriteSlot, ReadSlot}
 use Rattle.layout.specs.Limits.{slotHeadBytes, powerOk, slotOk, capacity, payloadCapacity}
 use Rattle.layout.specs.Header.{flagsAt, counterAt, bellAt}
-use Rattle.layout.proofs.SizeLaws.{capacity-room, slot-least}
 use Rattle.layout.specs.Slots.{headOf}
+use Rattle.layout.proofs.SizeLaws.{capacity-room, slot-least}
 use Rattle.rules.specs.Sides.{other, rings, sleepBell}
 use Rattle.rules.specs.Looks.{roomOf, wasBlocked, fitOf}
 use Rattle.rules.specs.Steps.{copyMove}

@@ -51,7 +51,7 @@ module _ (side : Side) (r : List ℕ) (p : Party) (i o : List ℕ) (f : Fault) (
   value = valueOf r (p .own) (nextSpec p)
 
   abbrev header : SlotHead
-  header = record { length = word side r p i o f 0; tag = word side r p i o f 2; flags = word side r p i o f 4; zero = word side r p i o f 6 }
+  header = record { length = word r p 0; tag = word r p 2; flags = word r p 4; zero = word r p 6 }
 
   header-is : headOf value ≡ header
   unfolding valueOf

@@ -36,9 +36,9 @@ unfoldable pub doorOf : Side → (flags : ℕ) → Door
 doorOf side flags =
     pick (bitOn (worth Shutdown) flags) Shut (pick (bitOn (worth (closeMark (other side))) flags) Left Open)
 
--- C2, 8: slot flags 1 to 15 not zero (flag 0 may be set), the zero word not zero, or the length above the payload capacity
+-- C2, 8: the length above the payload capacity, slot flags 1 to 15 not zero (flag 0 may be set), or the zero word not zero
 abbrev pub headBad : SlotHead → (payloadCapacity : ℕ) → Bool
-headBad head payloadCapacity = ltb 0 (head .flags / 2) || (ltb 0 (head .zero) || ltb payloadCapacity (head .length))
+headBad head payloadCapacity = ltb payloadCapacity (head .length) || (ltb 0 (head .flags / 2) || ltb 0 (head .zero))
 
 -- 8 before 15
 unfoldable pub fitOf : SlotHead → (payloadCapacity buffer : ℕ) → Fit

@@ -18,8 +18,8 @@ use Rattle.layout.specs.Limits.{payloadCapacity}
 use Rattle.rules.specs.Access.{slotOf}
 use Rattle.rules.specs.Turn.{taken, turnSpec}
 
-module _ (side : Side) (r : List ℕ) (p : Party) (payload buffer : List ℕ) (fault : Fault) where
-  -- the 16 bits at a place of the slot: length at 0, tag at 2, slot flags at 4, the zero word at 6
+module _ (r : List ℕ) (p : Party) where
+  -- the 16 bits at a place of the party's slot: length at 0, tag at 2, slot flags at 4, the zero word at 6
   abbrev pub word : ℕ → ℕ
   word at = leAt 2 (slotOf r (p .own) (p .counter)) at
 
@@ -30,14 +30,15 @@ module _ (side : Side) (r : List ℕ) (p : Party) (payload buffer : List ℕ) (f
   abbrev pub SlotGood : Type 0
   SlotGood = (word 0 ≤ payloadCapacity (p .own .slot)) × (word 4 ≤ 1) × (word 6 ≡ 0)
 
+module _ (side : Side) (r : List ℕ) (p : Party) (payload buffer : List ℕ) (fault : Fault) where
   abbrev pub Answers : Answer → Step → Type 0
   Answers answer step = (turnSpec side r p payload buffer fault .answer ≡ answer) × (turnSpec side r p payload buffer fault .party .step ≡ step)
 
   -- 8 on any ground, then 15, else length and tag are handed on
   pub record SlotAnswers : Type 0 where
-    pub bad : SlotBad → Answers CorruptSlot Rest
-    pub small : SlotGood → p .length < word 0 → Answers (OutputTooSmall (word 0)) Rest
-    pub fits : SlotGood → word 0 ≤ p .length → Answers GoesOn (Publish (word 0) (word 2))
+    pub bad : SlotBad r p → Answers CorruptSlot Rest
+    pub small : SlotGood r p → p .length < word r p 0 → Answers (OutputTooSmall (word r p 0)) Rest
+    pub fits : SlotGood r p → word r p 0 ≤ p .length → Answers GoesOn (Publish (word r p 0) (word r p 2))
 
   -- a pop at its copy that 20 does not refuse, over any region of bytes
   abbrev pub AnswersBySlot : Type 0

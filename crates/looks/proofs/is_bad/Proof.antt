@@ -9,13 +9,13 @@ returns-2 : tie.Need-returns-2
 returns-2 c = rw (c .before .if1 .left, c .if2 .taken)
 
 returns-3 : tie.Need-returns-3
-returns-3 c = rw (c .before .before .if1 .left, c .before .if2 .left)
+returns-3 c = rw (c .before .if1 .left, c .if2 .left)
 
 pub is-bad-spec : {M : Type 1} → statement M
 is-bad-spec =
     tie.close
     (tie.spec
+    (λ c. search needs)
     returns
     returns-2
-    (λ c. search needs)
     returns-3)
