@@ -209,7 +209,8 @@ fn whatever_fails_fails_the_gate() {
     }
 }
 
-/// What `.ci/places` says of one edit of a file: none, or the one line that names it.
+/// What `.ci/places` says of one edit of a file: nothing, or the line that names it. The file is no
+/// `.rt`: rt refuses one that stands in no crate, here too.
 fn places(name: &str, edit: &str) -> (Option<i32>, String) {
     let folder = PathBuf::from(env!("CARGO_TARGET_TMPDIR")).join(format!("places-{name}"));
     for part in [".ci", "crates/one/src", "crates/one/must-fail"] {
@@ -217,7 +218,7 @@ fn places(name: &str, edit: &str) -> (Option<i32>, String) {
     }
     let script = concat!(env!("CARGO_MANIFEST_DIR"), "/../.ci/places");
     fs::write(folder.join(".ci/places"), fs::read(script).unwrap()).unwrap();
-    fs::write(folder.join("crates/one/src/lib.rt"), "a = 1;\nb = 1;\n").unwrap();
+    fs::write(folder.join("crates/one/src/lib.txt"), "a = 1;\nb = 1;\n").unwrap();
     fs::write(folder.join("crates/one/must-fail/it.edit"), edit).unwrap();
     let output = output(Command::new("bash").arg(folder.join(".ci/places")));
     (
@@ -228,7 +229,7 @@ fn places(name: &str, edit: &str) -> (Option<i32>, String) {
 
 #[test]
 fn an_edit_names_a_place_that_occurs_once() {
-    let edit = |lines: &str| format!("# why\nfile: src/lib.rt\n{lines}");
+    let edit = |lines: &str| format!("# why\nfile: src/lib.txt\n{lines}");
     let good = edit("old: a = 1\nnew: a = 2\n");
     assert_eq!(places("once", &good), (Some(0), String::new()));
     // The second place is looked for where the first was changed already.
@@ -241,6 +242,6 @@ fn an_edit_names_a_place_that_occurs_once() {
             format!("crates/one/must-fail/it.edit: its place occurs {count} times: {old}\n");
         assert_eq!(said, expected);
     }
-    let elsewhere = "file: src/other.rt\nold: a = 1\nnew: a = 2\n";
+    let elsewhere = "file: src/other.txt\nold: a = 1\nnew: a = 2\n";
     assert_eq!(places("elsewhere", elsewhere).0, Some(1));
 }
