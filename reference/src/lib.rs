@@ -1,11 +1,13 @@
 //! The queue of document 01 in plain Rust, as a second opinion and as a baseline for speed.
+//! Document 01 is read with the requests (i) to (iii) of document 02: a pop looks at a slot's
+//! header in full (C2), and the ring is looked at once more before 11 and 13 (B6, W6).
 //!
 //! One lent region of bytes, two parties, and turns that make at most one shared access each.
 //! The rules stand in `header`, `region`, `party`, `turn` and `bench`; the script program and
 //! its tools in `script`, `stream`, `random`, `text`, `words`, `compare` and `readout`. `rounds`
 //! holds another script program to this one, and `coverage` says what was played with it.
-//! The steps that document 01 mends are a switch: `rules` has them mended, `published` as
-//! document 000 has them.
+//! The steps that document 01 and request (iii) mend are a switch: `rules` has them mended,
+//! `published` as document 000 has them.
 //!
 //! Where document 01 is silent, this package decides as follows.
 //!
@@ -25,6 +27,8 @@
 //! * A shutdown may be begun after one's own close.
 //! * A fresh attach does not count as closed, whatever bits 3 and 4 hold: one's own close
 //!   counts from the turn that sets its bit.
+//! * The last look (B6, W6) goes by the counters alone: flags that were set meanwhile are not
+//!   seen there. A sender that finds the recorder closed answers 11 at once, room or not.
 
 #![forbid(unsafe_code)]
 

@@ -3,6 +3,7 @@
 use crate::answer::{Answer, Bell, Operation};
 use crate::header::Header;
 use crate::region;
+use crate::rules::{Mended, Rules};
 
 #[derive(Clone, Copy, Debug, PartialEq, Eq, Hash)]
 pub enum Side {
@@ -90,7 +91,8 @@ pub enum Cause {
     Corruption,
 }
 
-/// The step a party stands at, with what the step carries.
+/// The step a party stands at, with what the step carries. B6 and W6 are the last look: the
+/// call's time is over or, for a pop, the sender has closed.
 #[derive(Clone, Copy, Debug, PartialEq, Eq, Hash)]
 pub enum Step {
     Rest,
@@ -106,6 +108,7 @@ pub enum Step {
     B3 { epoch: u32 },
     B4 { epoch: u32 },
     B5 { epoch: u32 },
+    B6,
     C1,
     C2,
     C3 { length: u16 },
@@ -117,6 +120,7 @@ pub enum Step {
     W3 { epoch: u32 },
     W4 { epoch: u32 },
     W5 { epoch: u32 },
+    W6 { timed_out: bool },
     Close(CloseTurn),
     Shut { turn: ShutTurn, cause: Cause },
 }
@@ -259,15 +263,19 @@ impl Party {
         Answer::GoesOn
     }
 
-    /// The sleeper's time is over.
-    pub fn time_out(&mut self, side: Side) -> Answer {
+    /// The sleeper's time is over, by other rules.
+    pub fn time_out_by<R: Rules>(&mut self, side: Side) -> Answer {
         if !self.is_sound(side) {
             return Answer::BadCall;
         }
         if self.step != Step::Asleep {
             return Answer::Nothing;
         }
-        self.step = Step::Rest;
-        Answer::Timeout
+        R::time_over(self).answer
+    }
+
+    /// The sleeper's time is over.
+    pub fn time_out(&mut self, side: Side) -> Answer {
+        self.time_out_by::<Mended>(side)
     }
 }

@@ -1,4 +1,5 @@
-//! The rules of document 000 that document 01 mends, each alone: everything else is mended.
+//! The rules of document 000 that document 01 mends, and those that request (iii) mends, each
+//! alone: everything else is mended.
 //!
 //! A load that document 000 asks for before a store is made in the turn just before it, which
 //! is the latest that its text allows and so the reading under which it loses least.
@@ -85,6 +86,24 @@ pub struct OneLookPush;
 impl Rules for OneLookPush {
     fn after_b3(epoch: u32) -> Step {
         Step::B5 { epoch }
+    }
+}
+
+/// 12.4.2.6: a pop that has found the ring empty, and then the sender closed, answers Closed.
+pub struct ClosedAtOnce;
+
+impl Rules for ClosedAtOnce {
+    fn other_closed(party: &mut Party) -> Taken {
+        party.ends(Answer::Closed)
+    }
+}
+
+/// 12.3.4: a time-out answers Timeout, against 3.2.4.
+pub struct TimeoutAtOnce;
+
+impl Rules for TimeoutAtOnce {
+    fn time_over(party: &mut Party) -> Taken {
+        party.ends(Answer::Timeout)
     }
 }
 

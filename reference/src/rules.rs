@@ -1,4 +1,5 @@
-//! The steps at which the published queue and document 01 part, as a switch of rules.
+//! The steps at which the published queue and document 01, read with request (iii), part, as a
+//! switch of rules.
 //!
 //! A trait's own bodies are the mended steps. A published rule takes the place of the few
 //! bodies that it words differently (`published`), and all else stays shared. The rules are
@@ -6,7 +7,7 @@
 
 use crate::answer::{Answer, Bell};
 use crate::header::Header;
-use crate::party::{CloseTurn, Party, Step};
+use crate::party::{CloseTurn, Party, Side, Step};
 use crate::turn::{Taken, Wake};
 
 pub trait Rules {
@@ -85,13 +86,34 @@ pub trait Rules {
         Step::W4 { epoch }
     }
 
+    /// A look at the flags has found the other side closed.
+    #[inline]
+    fn other_closed(party: &mut Party) -> Taken {
+        match party.side {
+            Side::Sender => party.ends(Answer::Closed),
+            // The sender's last note may have come after the look at head, and before the
+            // close.
+            Side::Recorder => party.goes_on(Step::W6 { timed_out: false }),
+        }
+    }
+
+    /// The time of a sleep or of a wait is over.
+    #[inline]
+    fn time_over(party: &mut Party) -> Taken {
+        // What came since the look before the wait may not have woken the party yet.
+        party.goes_on(match party.side {
+            Side::Sender => Step::B6,
+            Side::Recorder => Step::W6 { timed_out: true },
+        })
+    }
+
     #[inline]
     fn after_close_bit() -> CloseTurn {
         CloseTurn::Raise
     }
 }
 
-/// Document 01's rules, whole.
+/// Document 01's rules, whole, with the requests that are built.
 pub struct Mended;
 
 impl Rules for Mended {}

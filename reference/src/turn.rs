@@ -77,7 +77,7 @@ impl Party {
                 self.goes_on(Step::P6)
             }
             Step::P6 => R::p6(self, failure),
-            Step::B1 => self.look(&header, Step::B2),
+            Step::B1 => self.look::<R>(&header, Step::B2),
             Step::B2 => {
                 let epoch = header.bell(Bell::Nf);
                 self.goes_on(Step::B3 { epoch })
@@ -87,8 +87,13 @@ impl Party {
                 Fill::Full => self.goes_on(R::after_b3(epoch)),
                 Fill::Empty | Fill::Between => self.goes_on(Step::P2),
             },
-            Step::B4 { epoch } => self.look(&header, Step::B5 { epoch }),
+            Step::B4 { epoch } => self.look::<R>(&header, Step::B5 { epoch }),
             Step::B5 { epoch } => self.wait::<R>(&header, epoch, failure),
+            Step::B6 => match region::fill(self.count, header.tail(), self.power) {
+                Fill::Corrupt => self.corruption(),
+                Fill::Full => self.ends(Answer::Timeout),
+                Fill::Empty | Fill::Between => self.goes_on(Step::P2),
+            },
             Step::Close(turn) => self.close_turn::<R>(&mut header, turn, failure),
             Step::Shut { turn, cause } => self.shut_turn(&mut header, turn, cause, failure),
             _ => Taken::answer(Answer::BadCall),
@@ -141,7 +146,7 @@ impl Party {
                 self.goes_on(Step::C6 { length })
             }
             Step::C6 { length } => R::c6(self, failure, length),
-            Step::W1 => self.look(&header, Step::W2),
+            Step::W1 => self.look::<R>(&header, Step::W2),
             Step::W2 => {
                 let epoch = header.bell(Bell::Ne);
                 self.goes_on(Step::W3 { epoch })
@@ -151,8 +156,14 @@ impl Party {
                 Fill::Empty => self.goes_on(R::after_w3(epoch)),
                 Fill::Between | Fill::Full => self.goes_on(Step::C2),
             },
-            Step::W4 { epoch } => self.look(&header, Step::W5 { epoch }),
+            Step::W4 { epoch } => self.look::<R>(&header, Step::W5 { epoch }),
             Step::W5 { epoch } => self.wait::<R>(&header, epoch, failure),
+            Step::W6 { timed_out } => match region::fill(header.head(), self.count, self.power) {
+                Fill::Corrupt => self.corruption(),
+                Fill::Empty if timed_out => self.ends(Answer::Timeout),
+                Fill::Empty => self.ends(Answer::Closed),
+                Fill::Between | Fill::Full => self.goes_on(Step::C2),
+            },
             Step::Close(turn) => self.close_turn::<R>(&mut header, turn, failure),
             Step::Shut { turn, cause } => self.shut_turn(&mut header, turn, cause, failure),
             _ => Taken::answer(Answer::BadCall),
@@ -238,12 +249,12 @@ impl Party {
     }
 
     /// A look at the flags before sleep: shutdown, then the other side's close.
-    fn look(&mut self, header: &Header, next: Step) -> Taken {
+    fn look<R: Rules>(&mut self, header: &Header, next: Step) -> Taken {
         let flags = header.flags();
         if flags & Header::SHUTDOWN != 0 {
             self.ends(Answer::Shutdown)
         } else if flags & self.side.other().closed_flag() != 0 {
-            self.ends(Answer::Closed)
+            R::other_closed(self)
         } else {
             self.goes_on(next)
         }
@@ -256,7 +267,7 @@ impl Party {
         match failure {
             None if (header.bell(bell) ^ epoch) & R::BELL == 0 => self.goes_on(Step::Asleep),
             None | Some(EINTR | EAGAIN) => self.goes_on(again),
-            Some(ETIMEDOUT) => self.ends(Answer::Timeout),
+            Some(ETIMEDOUT) => R::time_over(self),
             Some(error) => self.ends(Answer::Syscall {
                 operation: Operation::wait(bell),
                 error,

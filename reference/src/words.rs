@@ -148,6 +148,7 @@ pub fn step(party: &Party) -> String {
         Step::B3 { .. } => "B3",
         Step::B4 { .. } => "B4",
         Step::B5 { .. } => "B5",
+        Step::B6 => "B6",
         Step::C1 => "C1",
         Step::C2 => "C2",
         Step::C3 { .. } => "C3",
@@ -159,6 +160,7 @@ pub fn step(party: &Party) -> String {
         Step::W3 { .. } => "W3",
         Step::W4 { .. } => "W4",
         Step::W5 { .. } => "W5",
+        Step::W6 { .. } => "W6",
         Step::Close(turn) => return close_step(party.side, turn),
         Step::Shut { turn, cause } => return shut_step(turn, cause),
     };

@@ -58,7 +58,7 @@ fn every_answer_and_every_step_is_reached() {
     assert_eq!(answers, all);
     for seat in [8, 16] {
         let steps: BTreeSet<u8> = played.iter().map(|(.., report)| report[seat]).collect();
-        assert_eq!(steps, (0..=20).collect(), "seat at {seat}");
+        assert_eq!(steps, (0..=21).collect(), "seat at {seat}");
     }
 }
 
@@ -162,6 +162,94 @@ fn every_bit_of_a_slot_header_is_flipped_and_has_its_answer() {
             other => other,
         };
         assert_eq!(ended, [short, flipped(bit)], "{name}");
+    }
+}
+
+/// What the turns of a case that are no GoesOn answer, with their sides. What is refused with 253
+/// is left out.
+fn ended(name: &str) -> Vec<(Side, Answer)> {
+    let cases = list();
+    let case = cases.iter().find(|case| case.name == name).expect(name);
+    let mut stage = Stage::new();
+    let mut ended = Vec::new();
+    for &record in &case.records {
+        let answer = stage.play(record).answer;
+        let turn = matches!(record.ask, Ask::Turn(_) | Ask::Failing(..));
+        if turn && answer.number() < 253 {
+            ended.push((record.ask.actor().expect("a turn is a party's"), answer));
+        }
+    }
+    ended
+}
+
+/// The cases of the last look are what their names say.
+#[test]
+fn the_last_looks_have_their_answers() {
+    use Side::{Recorder, Sender};
+    let note = |tag, length| (Recorder, Answer::Delivered { tag, length });
+    let done = (Sender, Answer::Done);
+    let timeout = |side| (side, Answer::Timeout);
+    let corrupt = |side| (side, Answer::CorruptIndices);
+    let closed = (Recorder, Answer::Closed);
+    for place in ["W1", "W4"] {
+        let name = format!("{place} and W6: the last note, then the close; 11 comes after it");
+        assert_eq!(ended(&name), [done, done, note(1, 3), closed], "{name}");
+    }
+    let expected: [(&str, &[(Side, Answer)]); 11] = [
+        (
+            "A time-out of the sender: what came meanwhile",
+            &[done, done, done, note(1, 3)],
+        ),
+        (
+            "A time-out of the recorder: what came meanwhile",
+            &[note(3, 4), done],
+        ),
+        (
+            "Error 110 of the sender: what came meanwhile",
+            &[done, done, note(1, 3), done],
+        ),
+        (
+            "Error 110 of the recorder: what came meanwhile",
+            &[done, note(3, 4)],
+        ),
+        (
+            "Last look of the sender over all flags: 13 and not 12",
+            &[done, done, timeout(Sender)],
+        ),
+        (
+            "Last look of the recorder over all flags: 13 and not 12",
+            &[timeout(Recorder)],
+        ),
+        (
+            "W6 after a shutdown: 11 and not 12, and a note is delivered",
+            &[closed, done, note(1, 3)],
+        ),
+        (
+            "Answer 7 at B6 after a time-out, failed wakes ignored",
+            &[done, done, corrupt(Sender)],
+        ),
+        (
+            "Answer 7 at W6 after a time-out, failed wakes ignored",
+            &[corrupt(Recorder)],
+        ),
+        (
+            "Answer 7 at W6 after a close, 11 is not given",
+            &[done, corrupt(Recorder)],
+        ),
+        (
+            "Close recorder: the other wakes and answers 11",
+            &[
+                done,
+                done,
+                (Recorder, Answer::Done),
+                (Sender, Answer::Closed),
+                (Recorder, Answer::Done),
+                (Sender, Answer::Shutdown),
+            ],
+        ),
+    ];
+    for (name, answers) in expected {
+        assert_eq!(ended(name), answers, "{name}");
     }
 }
 

@@ -33,13 +33,13 @@ fn gaps(coverage: &Coverage, of: &str) -> usize {
 }
 
 /// Document 01 has 6 + 5 steps of a call, two of no turn, 3 of a close and 5 of a shutdown for
-/// each side; whoever asks may ask for anything at any of them.
+/// each side, and request (iii) a last look; whoever asks may ask for anything at any of them.
 #[test]
 fn every_step_meets_every_event() {
     let reach = reach();
     let sides = [Side::Sender, Side::Recorder];
     let places: HashSet<Place> = sides.into_iter().flat_map(Place::all).collect();
-    assert_eq!(places.len(), 2 * (6 + 5 + 2 + 3 + 5));
+    assert_eq!(places.len(), 2 * (6 + 5 + 1 + 2 + 3 + 5));
     let pairs: HashSet<(Place, Event)> =
         reach.ways.iter().map(|way| (way.from, way.event)).collect();
     let all = places
@@ -89,11 +89,11 @@ fn no_random_script_leaves_the_known_ways() {
 fn gaps_are_shown() {
     let mut coverage = Coverage::new();
     let marks = |coverage: &Coverage| coverage.table().matches("      !").count();
-    assert_eq!(marks(&coverage), 42 * Event::ALL.len());
+    assert_eq!(marks(&coverage), 44 * Event::ALL.len());
     let mut push = [0; RECORD];
     push[0] = 8;
     play(&mut coverage, [push]);
-    assert_eq!(marks(&coverage), 42 * Event::ALL.len() - 1);
+    assert_eq!(marks(&coverage), 44 * Event::ALL.len() - 1);
     assert!(coverage.table().contains("254 Begun 1,"));
     for length in 1..RECORD {
         let fault = format!("not played: cut last record, bytes {length}");

@@ -38,7 +38,7 @@ fn close_of_the_sender() {
     );
     assert_eq!(house.turn(SENDER), Answer::Done);
     assert_eq!(house.step(RECORDER), Step::C1);
-    assert_eq!(house.finish(RECORDER), (Answer::Closed, 2));
+    assert_eq!(house.finish(RECORDER), (Answer::Closed, 3));
     assert_eq!(house.begin_push(true, 0, b""), Answer::Closed);
     assert_eq!(house.bench.sender.begin_close(SENDER), Answer::Closed);
     assert_eq!(house.bench.sender.begin_shutdown(SENDER), Answer::Begun);
@@ -68,7 +68,7 @@ fn close_comes_after_the_notes() {
     let note = Answer::Delivered { tag: 1, length: 1 };
     assert_eq!(house.finish(RECORDER).0, note);
     house.begin_pop(true, 8);
-    assert_eq!(house.finish(RECORDER), (Answer::Closed, 2));
+    assert_eq!(house.finish(RECORDER), (Answer::Closed, 3));
 }
 
 #[test]
@@ -160,13 +160,13 @@ fn shutdown_is_seen_before_close() {
             assert_eq!(house.turn(SENDER), answer);
         }
     }
-    for (flags, answer) in [(0x6F, Answer::Shutdown), (0x4F, Answer::Closed)] {
+    for (flags, ended) in [(0x6F, (Answer::Shutdown, 1)), (0x4F, (Answer::Closed, 2))] {
         for turns in [1, 4] {
             let mut house = House::new(1, 16, true, 0);
             house.begin_pop(true, 8);
             house.go_on(RECORDER, turns);
             house.put(Header::AT_FLAGS, &[flags]);
-            assert_eq!(house.turn(RECORDER), answer);
+            assert_eq!(house.finish(RECORDER), ended);
         }
     }
     // One's own close is not the other's: nobody closes the sender's push with bit 3.
@@ -223,6 +223,32 @@ fn corruption_at_p1_b3_c1_and_w3() {
     house.go_on(SENDER, 3);
     house.put(Header::AT_TAIL, &[0xFF; 8]);
     corruption(house, SENDER);
+}
+
+/// After a time-out of either side, and after the sender's close: neither 13 nor 11 is given.
+#[test]
+fn corruption_at_b6_and_w6() {
+    let mut house = asleep(SENDER);
+    assert_eq!(house.bench.sender.time_out(SENDER), Answer::GoesOn);
+    house.put(Header::AT_TAIL, &[0xFF; 8]);
+    corruption(house, SENDER);
+
+    let mut house = asleep(RECORDER);
+    assert_eq!(house.bench.recorder.time_out(RECORDER), Answer::GoesOn);
+    house.put(Header::AT_HEAD, &[3]);
+    corruption(house, RECORDER);
+
+    for turns in [1, 4] {
+        let mut house = House::new(1, 16, true, 0);
+        house.begin_pop(true, 8);
+        house.go_on(RECORDER, turns);
+        house.bench.sender.begin_close(SENDER);
+        house.finish(SENDER);
+        house.go_on(RECORDER, 1);
+        assert_eq!(house.step(RECORDER), Step::W6 { timed_out: false });
+        house.put(Header::AT_HEAD, &[3]);
+        corruption(house, RECORDER);
+    }
 }
 
 /// A corruption's wakes wake, unless they fail.

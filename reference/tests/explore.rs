@@ -4,11 +4,11 @@ use std::collections::HashSet;
 
 use reference::dice::Dice;
 use reference::explore::afterwards::afterwards;
-use reference::explore::bounds::{states, to_no_room, to_rest, Counter, Stretch};
+use reference::explore::bounds::{states, to_no_room, to_rest, to_sleep, Counter, Stretch};
 use reference::explore::lost;
 use reference::explore::normal::normal;
 use reference::explore::{needed, Claim, Event, Machine, Meddling, Menu, State, Turns, Walk};
-use reference::published::NarrowBell;
+use reference::published::{NarrowBell, TimeoutAtOnce};
 use reference::rules::Mended;
 use reference::{Answer, Side, Step};
 
@@ -45,7 +45,10 @@ fn each_published_rule_loses_what_it_should() {
         ("12.6.3", cause(Side::Sender), [22, 32]),
         ("13.3.2.9", Claim::Count, [11, 11]),
         ("13.4.2.12", Claim::Order, [20, 32]),
+        ("12.4.2.6", Claim::Closed, [12, 12]),
+        ("12.3.4", Claim::Timeout(Side::Recorder), [11, 11]),
     ];
+    assert_eq!(lost::rules().len(), expected.len());
     for (rule, (name, claim, lengths)) in lost::rules().iter().zip(expected) {
         assert_eq!(rule.name, name);
         for (power, length) in [1, 2].into_iter().zip(lengths) {
@@ -78,6 +81,40 @@ fn a_failed_wake_overwrites_a_sent_note() {
     assert_eq!(end.ring[0], 1, "note 1 lies where note 0 lay");
 }
 
+/// The note that was sent before the close lies in the ring, and the pop has been told that
+/// there is none.
+#[test]
+fn a_close_is_told_over_a_note() {
+    let rules = lost::rules();
+    let rule = rules.iter().find(|rule| rule.name == "12.4.2.6").unwrap();
+    let mut machine = rule.machine(1);
+    let run = rule.explore(&mut machine).broken.unwrap();
+    let end = played(&mut machine, &run.events);
+    assert_eq!((end.sent, end.got, end.waiting()), (1, 0, 1));
+    assert_eq!(end.step(Side::Recorder), Step::Rest);
+    assert!(end.bench.sender.closed);
+}
+
+/// A time-out is told by its event, and over a wait that fails; either side has room by then.
+#[test]
+fn a_time_out_is_told_over_room() {
+    let turns = Turns::by::<TimeoutAtOnce>();
+    for power in [1, 2] {
+        let mut machine = Machine::new(turns, power, true);
+        let mut told = HashSet::new();
+        for state in states(&mut machine, Menu::ALL) {
+            for event in Menu::ALL.offers(&state) {
+                let (after, answer) = machine.play(&state, event);
+                let side = event.side().unwrap();
+                if answer == Answer::Timeout && after.room(side) > 0 {
+                    told.insert(event);
+                }
+            }
+        }
+        assert_eq!(told.len(), 4, "{told:?}");
+    }
+}
+
 #[test]
 fn the_mended_rules_lose_nothing() {
     for (power, not_full) in RINGS {
@@ -86,6 +123,10 @@ fn the_mended_rules_lose_nothing() {
         let explored = walk(Menu::ALL, &t1).from_start(&mut machine);
         assert_eq!(explored.broken, None);
         assert!(explored.states.len() > 1500);
+        let [sender, recorder] = SIDES.map(Claim::Timeout);
+        let t10 = [Claim::Closed, sender, recorder];
+        let explored = walk(Menu::ALL, &t10).from_start(&mut machine);
+        assert_eq!(explored.broken, None);
         for side in SIDES {
             let claims = [Claim::Cause(side)];
             let explored = walk(Menu::fair(side), &claims).from_start(&mut machine);
@@ -130,8 +171,8 @@ fn a_state_and_its_normal_form_go_on_alike() {
     }
 }
 
-/// Both bounds are kept. T2's is reached where all slots are room and the party rings; T4's
-/// where both sides ring.
+/// T2's and T4's bounds are kept. T2's is reached where all slots are room and the party rings;
+/// T4's where both sides ring.
 fn bounds(mut machine: Machine, side: Side, menu: Menu) {
     let not_full = machine.start().bench.sender.not_full;
     let found = states(&mut machine, menu);
@@ -181,6 +222,53 @@ fn the_bounds_are_kept_without_premises() {
             bounds(mended(power, true), side, Menu::ALL);
         }
     }
+}
+
+/// T9's numbers, from any step of a wait and from the look, are reached in states that time-outs
+/// and failing waits lead to; with not-full off no push waits.
+#[test]
+fn whoever_has_no_room_sleeps_within_nine_turns() {
+    for (power, not_full) in RINGS {
+        for side in SIDES {
+            let mut machine = mended(power, not_full);
+            let found = states(&mut machine, Menu::ALL);
+            let mut most = |from| to_sleep(&mut machine, &found, side, from).turns;
+            let numbers = [
+                most(|_| true),
+                most(|step| matches!(step, Step::P1 | Step::C1)),
+            ];
+            let expected = match not_full || side == Side::Recorder {
+                true => [Some(9), Some(6)],
+                false => [Some(0), Some(0)],
+            };
+            assert_eq!(numbers, expected, "power {power}, {side:?}");
+        }
+    }
+}
+
+/// Every way out of the last look is walked: a copy, 13, and 11 for the recorder.
+#[test]
+fn the_last_look_leads_to_a_copy_or_to_the_end() {
+    let mut machine = mended(1, true);
+    let mut found = HashSet::new();
+    for state in states(&mut machine, Menu::ALL) {
+        for side in SIDES {
+            if matches!(state.step(side), Step::B6 | Step::W6 { .. }) {
+                let (after, answer) = machine.play(&state, Event::Turn(side));
+                found.insert((state.step(side), after.step(side), answer));
+            }
+        }
+    }
+    let [timed_out, closed] = [true, false].map(|timed_out| Step::W6 { timed_out });
+    let expected = [
+        (Step::B6, Step::P2, Answer::GoesOn),
+        (Step::B6, Step::Rest, Answer::Timeout),
+        (timed_out, Step::C2, Answer::GoesOn),
+        (timed_out, Step::Rest, Answer::Timeout),
+        (closed, Step::C2, Answer::GoesOn),
+        (closed, Step::Rest, Answer::Closed),
+    ];
+    assert_eq!(found, expected.into_iter().collect());
 }
 
 /// A party that would look again without end has no bound, and the count says so.

@@ -47,7 +47,12 @@ impl State {
         }
         match self.house.turn(side) {
             Answer::GoesOn => return,
-            Answer::Closed | Answer::Shutdown => self.over[me] = true,
+            Answer::Closed => {
+                let empty = self.house.waiting() == 0;
+                assert!(side == Side::Sender || empty, "closed over a note");
+                self.over[me] = true;
+            }
+            Answer::Shutdown => self.over[me] = true,
             Answer::Done => {}
             Answer::Delivered { tag, .. } => {
                 assert_eq!(tag, self.delivered);

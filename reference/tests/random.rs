@@ -22,6 +22,22 @@ fn the_same_for_the_same_seed() {
     assert_eq!(Generator::new(1, 1).count(), 1);
 }
 
+/// A pop's turn answers 11 over an empty ring alone, and 13 so; a push's 13 over a full one.
+fn ended_over_nothing(record: &Record, answer: Answer, waiting: usize) {
+    let side = match Kind::of_number(record.kind) {
+        Some(Kind::Turn(side) | Kind::FailingTurn(side)) => side,
+        _ => {
+            assert_ne!(answer, Answer::Timeout);
+            return;
+        }
+    };
+    match (answer, side) {
+        (Answer::Closed | Answer::Timeout, Side::Recorder) => assert_eq!(waiting, 0),
+        (Answer::Timeout, Side::Sender) => assert_eq!(waiting, 4),
+        _ => {}
+    }
+}
+
 /// Plays a script beside a plain list of notes.
 #[test]
 fn delivered_notes_are_the_sent_ones_in_order() {
@@ -32,7 +48,8 @@ fn delivered_notes_are_the_sent_ones_in_order() {
         let mut delivered = None;
         for bytes in Generator::new(seed, 2000) {
             let before = *player.bench();
-            let answer = player.answer(&Record::from_bytes(&bytes));
+            let record = Record::from_bytes(&bytes);
+            let answer = player.answer(&record);
             let after = player.bench();
             if before.sender.step == Step::P3 && after.sender.step == Step::P4 {
                 let note = player.payload()[..after.sender.length].to_vec();
@@ -55,6 +72,7 @@ fn delivered_notes_are_the_sent_ones_in_order() {
             }
             assert_eq!(used(&player), waiting.len() as u64);
             assert!(waiting.len() <= 4, "more waiting than the capacity");
+            ended_over_nothing(&record, answer, waiting.len());
         }
     }
     assert!(deliveries > 5000, "only {deliveries} notes delivered");
@@ -120,8 +138,8 @@ fn scripts_hold_everything() {
     let all = [0, 9, 10, 11, 12, 13, 15, 17, 18, 20, 253, 254, 255];
     assert!(answers.iter().eq(all.iter()), "{answers:?}");
     assert!(errors.iter().eq([0, 1, 2, 3].iter()), "{errors:?}");
-    // 6 + 5 steps, at rest, asleep, 3 turns of close and 5 of shutdown, for each side.
-    assert_eq!(steps.len(), 2 * (6 + 5 + 2 + 3 + 5), "{steps:?}");
+    // 6 + 6 steps, at rest, asleep, 3 turns of close and 5 of shutdown, for each side.
+    assert_eq!(steps.len(), 2 * (6 + 6 + 2 + 3 + 5), "{steps:?}");
 }
 
 /// Seeds 3 above a multiple of 4 close and shut down anywhere, other odd ones late.

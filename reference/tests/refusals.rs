@@ -149,10 +149,14 @@ fn asked_of_the_wrong_side() {
     let taken = house.bench.recorder.sender_turn(region, &[], None);
     assert_eq!(taken.answer, Answer::BadCall);
     // A record at a step of the other side was made by no begin.
-    house.bench.sender.step = Step::C1;
-    assert_eq!(house.turn(SENDER), Answer::BadCall);
-    house.bench.recorder.step = Step::P1;
-    assert_eq!(house.turn(RECORDER), Answer::BadCall);
+    for step in [Step::C1, Step::W6 { timed_out: true }] {
+        house.bench.sender.step = step;
+        assert_eq!(house.turn(SENDER), Answer::BadCall);
+    }
+    for step in [Step::P1, Step::B6] {
+        house.bench.recorder.step = step;
+        assert_eq!(house.turn(RECORDER), Answer::BadCall);
+    }
 }
 
 #[test]

@@ -54,7 +54,9 @@ impl Night {
             Some(Kind::Turn(side)) => self.turn(side, None),
             Some(Kind::FailingTurn(side)) => self.turn(side, Some(record.error)),
             Some(Kind::Spurious(side)) => self.house.bench.party_mut(side).spurious_return(side),
-            Some(Kind::TimeOut(side)) => self.house.bench.party_mut(side).time_out(side),
+            Some(Kind::TimeOut(side)) => {
+                (self.turns.time_out)(self.house.bench.party_mut(side), side)
+            }
             Some(Kind::Close(side)) => self.house.bench.party_mut(side).begin_close(side),
             Some(Kind::Shutdown(side)) => self.house.bench.party_mut(side).begin_shutdown(side),
             Some(kind) => self.call(kind, record),
@@ -115,11 +117,15 @@ fn the_mended_rules_are_the_same() {
     }
 }
 
+/// A script seldom has a pop that waits after the sender's close: with fewer seeds 12.4.2.6 might
+/// show in none.
+const SEEDS: u64 = 120;
+
 #[test]
 fn every_published_rule_is_found_at_its_first_differing_record() {
     for rule in rules() {
         let mut found = 0;
-        for seed in 0..24 {
+        for seed in 0..SEEDS {
             let script = script(seed);
             let report = played(&script, rule.turns);
             let mut mended = Vec::new();
@@ -141,7 +147,7 @@ fn every_published_rule_is_found_at_its_first_differing_record() {
                 }
             }
         }
-        println!("{}: found by {found} of 24 scripts", rule.name);
+        println!("{}: found by {found} of {SEEDS} scripts", rule.name);
         assert!(found >= 3, "{}: found by {found} scripts", rule.name);
     }
 }

@@ -236,8 +236,9 @@ fn a_failed_wake_wakes_nobody_and_keeps_the_note() {
         }
     );
     assert_eq!(house.step(SENDER), Step::Asleep);
-    assert_eq!(house.bench.sender.time_out(SENDER), Answer::Timeout);
-    assert_eq!(house.step(SENDER), Step::Rest);
+    // Nor does it keep the slot: the sender finds it when its time is over.
+    assert_eq!(house.bench.sender.time_out(SENDER), Answer::GoesOn);
+    assert_eq!(house.finish(SENDER).0, Answer::Done);
 }
 
 #[test]
@@ -245,7 +246,7 @@ fn failed_waits() {
     for (error, sender, recorder) in [
         (4, Step::P1, Step::C1),
         (11, Step::P1, Step::C1),
-        (110, Step::Rest, Step::Rest),
+        (110, Step::B6, Step::W6 { timed_out: true }),
         (22, Step::Rest, Step::Rest),
     ] {
         // Whatever the word holds: once as the epoch says, once raised.
@@ -257,8 +258,7 @@ fn failed_waits() {
                 house.put(Header::AT_NE, &[77]);
             }
             let answer = |operation| match error {
-                4 | 11 => Answer::GoesOn,
-                110 => Answer::Timeout,
+                4 | 11 | 110 => Answer::GoesOn,
                 _ => Answer::Syscall { operation, error },
             };
             assert_eq!(
@@ -314,5 +314,7 @@ fn an_announced_failure_is_ignored_without_a_futex_call() {
         assert_eq!(house.failing_turn(RECORDER, Some(110)), Answer::GoesOn);
     }
     assert_eq!(house.step(RECORDER), Step::W5 { epoch: 1 });
-    assert_eq!(house.failing_turn(RECORDER, Some(110)), Answer::Timeout);
+    assert_eq!(house.failing_turn(RECORDER, Some(110)), Answer::GoesOn);
+    assert_eq!(house.step(RECORDER), Step::W6 { timed_out: true });
+    assert_eq!(house.failing_turn(RECORDER, Some(22)), Answer::Timeout);
 }

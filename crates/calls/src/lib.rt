@@ -55,13 +55,13 @@ pub fn spurious(side: Side, p: Party) -> Reply
     replies::rouses(p, goes, asleep, roused)
 }
 
-// A time-out ends a sleeper's call.
+// A time-out leads a sleeper to its last look, which ends the call over no room alone.
 pub fn time_out(side: Side, p: Party) -> Reply
     ensures { λ r. ⌜ r ≡ timeoutSpec side p ⌝ }
 {
     let asleep = sound::sleeps(p);
     let goes = sound::sound(side, p);
-    let resting = replies::at(p, Step::Rest);
-    let roused = replies::reply(resting, Answer::Timeout);
+    let last = replies::at(p, Step::LastLook(true));
+    let roused = replies::reply(last, Answer::GoesOn);
     replies::rouses(p, goes, asleep, roused)
 }

@@ -31,6 +31,7 @@ pub fn move_at(
         Step::GateAgain(epoch) => waits::gate_move(own, value, Step::Wait(epoch)),
         Step::Wait(epoch) => waits::wait_move(own, value, error, epoch),
         Step::Asleep => Move::Still,
+        Step::LastLook(timed) => waits::last_move(own, counter, value, timed),
         Step::CloseSet => waits::close_move(own),
         Step::CloseRaise => Move::To(Step::CloseWake),
         Step::CloseWake => steps::wake_move(own, error, 0, 0),

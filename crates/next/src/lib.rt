@@ -46,6 +46,7 @@ pub fn next_at(step: Step, side: Side, counter: u64) -> Access
         Step::GateAgain(_) => Access::LoadFlags,
         Step::Wait(epoch) => Access::WaitBell(sleep, epoch),
         Step::Asleep => Access::None,
+        Step::LastLook(_) => Access::LoadCounter(them),
         Step::CloseSet => Access::SetFlag(Header::close_mark(side)),
         Step::CloseRaise => Access::RaiseBell(ring),
         Step::CloseWake => Access::WakeBell(ring, ALL),

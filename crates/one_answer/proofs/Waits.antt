@@ -3,9 +3,6 @@ use mathlib.Core.Path.{refl, sym, _∙_}
 use Rattle.one_answer.specs.OneAnswer.{OneAnswer}
 use Rattle.waits.proofs as code
 
-pub door-move : OneAnswer code.door_move.Kinds.ps code.door_move.Kinds.r code.door_move.Reads.Post
-door-move κs a z z′ ws ws′ p q = (p ∙ sym q, refl)
-
 pub gate-move : OneAnswer code.gate_move.Kinds.ps code.gate_move.Kinds.r code.gate_move.Reads.Post
 gate-move κs a z z′ ws ws′ p q = (p ∙ sym q, refl)
 
@@ -17,6 +14,9 @@ nap-move κs a z z′ ws ws′ p q = (p ∙ sym q, refl)
 
 pub wait-move : OneAnswer code.wait_move.Kinds.ps code.wait_move.Kinds.r code.wait_move.Reads.Post
 wait-move κs a z z′ ws ws′ p q = (p ∙ sym q, refl)
+
+pub last-move : OneAnswer code.last_move.Kinds.ps code.last_move.Kinds.r code.last_move.Reads.Post
+last-move κs a z z′ ws ws′ p q = (p ∙ sym q, refl)
 
 pub close-move : OneAnswer code.close_move.Kinds.ps code.close_move.Kinds.r code.close_move.Reads.Post
 close-move κs a z z′ ws ws′ p q = (p ∙ sym q, refl)

@@ -12,8 +12,9 @@ use Rattle.types.specs.declared.Bell.the-variants.{NotEmpty, NotFull}
 use Rattle.types.specs.declared.Party.{Party}
 use Rattle.types.specs.declared.Fault.the-variants.{Fine}
 use Rattle.types.specs.declared.Access.{Access}
+use Rattle.types.specs.declared.Door.{Door}
 use Rattle.types.specs.declared.Step.{Step}
-use Rattle.types.specs.declared.Step.the-variants.{Rest, Look, Copy, Publish, Check, Raise, Wake, Gate, Epoch, Again, GateAgain, Wait, Asleep, CloseSet, CloseRaise, CloseWake, ShutSet, ShutRaiseNe, ShutWakeNe, ShutRaiseNf, ShutWakeNf}
+use Rattle.types.specs.declared.Step.the-variants.{Rest, Look, Copy, Publish, Check, Raise, Wake, Gate, Epoch, Again, GateAgain, Wait, Asleep, LastLook, CloseSet, CloseRaise, CloseWake, ShutSet, ShutRaiseNe, ShutWakeNe, ShutRaiseNf, ShutWakeNf}
 use Rattle.rules.specs.Sides.{other}
 use Rattle.rules.specs.Take.{stanceOf, closedAfter}
 use Rattle.rules.specs.Next.{nextAt}
@@ -21,13 +22,13 @@ use Rattle.rules.specs.Run.{Note, Trace, World, partyIn, traced, rungOf}
 use Rattle.rules.specs.Premises.{FairTurn}
 use Rattle.rules.specs.Stretch.{Big, notesOf, beforeCopy, holdsEpoch, Underway}
 use Rattle.rules.specs.Phase.{phase}
-use Rattle.rules.proofs.Leads.{Leads, idles, finds, blocks, gives-up, copies, spills, tells, stores, owes, passes, raises, wakes, enters, stops, reads, finds-again, stays, enters-again, stops-again, returns, ends, dreams, closes, closes-alone, close-raises, close-wakes, shuts, shut-raises, shut-wakes, shut-raises-again, shut-wakes-again, sleeps as falls-asleep}
+use Rattle.rules.proofs.Leads.{Leads, idles, finds, blocks, gives-up, copies, spills, tells, stores, owes, passes, raises, wakes, enters, stops, reads, finds-again, stays, enters-again, stops-again, returns, ends, dreams, glances, glances-again, times-out, finds-last, finds-none, closes, closes-alone, close-raises, close-wakes, shuts, shut-raises, shut-wakes, shut-raises-again, shut-wakes-again, sleeps as falls-asleep}
 use Rattle.rules.proofs.Does.{Does, nothing, looks, flags, writes, reads as epoch, takes as take-slot, stores as store, raises as ring, closes as close, shuts as shut, waits as wait, wakes as wake}
 use Rattle.rules.proofs.Own.{waitsOn}
 use Rattle.rules.proofs.Costs.{Calls}
 
 -- a turn to a step before the copy comes from one
-pub before-on : (k x : ℕ) (z m r : Bool) (b : ℕ) (s next : Step) → Leads k x z m r b s next → beforeCopy next ≡ true → beforeCopy s ≡ true
+pub before-on : (k x : ℕ) (z : Door) (m r : Bool) (b : ℕ) (s next : Step) → Leads k x z m r b s next → beforeCopy next ≡ true → beforeCopy s ≡ true
 before-on k x z m r b s next idles e = absurd (let u : _≡_ {A = ℕ} 0 1 = cc in omega arith)
 before-on k x z m r b s next (finds h) e = refl
 before-on k x z m r b s next (blocks h q) e = refl
@@ -51,6 +52,11 @@ before-on k x z m r b s next (falls-asleep h) e = refl
 before-on k x z m r b s next returns e = refl
 before-on k x z m r b s next ends e = absurd (let u : _≡_ {A = ℕ} 0 1 = cc in omega arith)
 before-on k x z m r b s next dreams e = refl
+before-on k x z m r b s next (glances h) e = refl
+before-on k x z m r b s next (glances-again h) e = refl
+before-on k x z m r b s next times-out e = refl
+before-on k x z m r b s next (finds-last h) e = refl
+before-on k x z m r b s next (finds-none h) e = absurd (let u : _≡_ {A = ℕ} 0 1 = cc in omega arith)
 before-on k x z m r b s next (closes h) e = absurd (let u : _≡_ {A = ℕ} 0 1 = cc in omega arith)
 before-on k x z m r b s next (closes-alone h) e = absurd (let u : _≡_ {A = ℕ} 0 1 = cc in omega arith)
 before-on k x z m r b s next close-raises e = absurd (let u : _≡_ {A = ℕ} 0 1 = cc in omega arith)
@@ -62,7 +68,7 @@ before-on k x z m r b s next shut-raises-again e = absurd (let u : _≡_ {A = �
 before-on k x z m r b s next shut-wakes-again e = absurd (let u : _≡_ {A = ℕ} 0 1 = cc in omega arith)
 
 -- an epoch that is held was just read, or was held before
-pub epoch-on : (k x : ℕ) (z m r : Bool) (b : ℕ) (s next : Step) → Leads k x z m r b s next → holdsEpoch next ≡ true → (s ≡ Epoch) ⊎ ((waitsOn s ≡ true) × (holdsEpoch s ≡ true))
+pub epoch-on : (k x : ℕ) (z : Door) (m r : Bool) (b : ℕ) (s next : Step) → Leads k x z m r b s next → holdsEpoch next ≡ true → (s ≡ Epoch) ⊎ ((waitsOn s ≡ true) × (holdsEpoch s ≡ true))
 epoch-on k x z m r b s next idles e = absurd (let u : _≡_ {A = ℕ} 0 1 = cc in omega arith)
 epoch-on k x z m r b s next (finds h) e = absurd (let u : _≡_ {A = ℕ} 0 1 = cc in omega arith)
 epoch-on k x z m r b s next (blocks h q) e = absurd (let u : _≡_ {A = ℕ} 0 1 = cc in omega arith)
@@ -86,6 +92,11 @@ epoch-on k x z m r b s next (falls-asleep h) e = absurd (let u : _≡_ {A = ℕ}
 epoch-on k x z m r b s next returns e = absurd (let u : _≡_ {A = ℕ} 0 1 = cc in omega arith)
 epoch-on k x z m r b s next ends e = absurd (let u : _≡_ {A = ℕ} 0 1 = cc in omega arith)
 epoch-on k x z m r b s next dreams e = absurd (let u : _≡_ {A = ℕ} 0 1 = cc in omega arith)
+epoch-on k x z m r b s next (glances h) e = absurd (let u : _≡_ {A = ℕ} 0 1 = cc in omega arith)
+epoch-on k x z m r b s next (glances-again h) e = absurd (let u : _≡_ {A = ℕ} 0 1 = cc in omega arith)
+epoch-on k x z m r b s next times-out e = absurd (let u : _≡_ {A = ℕ} 0 1 = cc in omega arith)
+epoch-on k x z m r b s next (finds-last h) e = absurd (let u : _≡_ {A = ℕ} 0 1 = cc in omega arith)
+epoch-on k x z m r b s next (finds-none h) e = absurd (let u : _≡_ {A = ℕ} 0 1 = cc in omega arith)
 epoch-on k x z m r b s next (closes h) e = absurd (let u : _≡_ {A = ℕ} 0 1 = cc in omega arith)
 epoch-on k x z m r b s next (closes-alone h) e = absurd (let u : _≡_ {A = ℕ} 0 1 = cc in omega arith)
 epoch-on k x z m r b s next close-raises e = absurd (let u : _≡_ {A = ℕ} 0 1 = cc in omega arith)
@@ -111,6 +122,7 @@ stays-open (Again e) y b = refl
 stays-open (GateAgain e) y b = refl
 stays-open (Wait e) y b = refl
 stays-open Asleep y b = refl
+stays-open (LastLook c) y b = refl
 stays-open CloseSet y b = absurd y
 stays-open CloseRaise y b = refl
 stays-open CloseWake y b = refl
@@ -121,35 +133,6 @@ stays-open (ShutRaiseNf c e) y b = refl
 stays-open (ShutWakeNf c e) y b = refl
 
 module _ (p : Party) (payload buffer : List ℕ) (t : Trace) where
-  -- before the copy, nobody's notes change
-  pub own-notes : (side : Side) (n : ℕ) (s : Step) (a : Access) → Does side n s a → beforeCopy s ≡ true → notesOf side (traced a p payload buffer t) ≡ notesOf side t
-  own-notes Sender n s a (nothing l) h = refl
-  own-notes Sender n s a (looks l) h = refl
-  own-notes Sender n s a (flags l) h = refl
-  own-notes Sender n s a epoch h = refl
-  own-notes Sender n s a (writes e) h = refl
-  own-notes Sender n s a (take-slot e) h = refl
-  own-notes Sender n s a store h = absurd (let u : _≡_ {A = ℕ} 0 1 = cc in omega arith)
-  own-notes Sender n s a (ring l NotEmpty) h = refl
-  own-notes Sender n s a (ring l NotFull) h = refl
-  own-notes Sender n s a close h = refl
-  own-notes Sender n s a shut h = refl
-  own-notes Sender n s a wait h = refl
-  own-notes Sender n s a (wake l b m) h = refl
-  own-notes Recorder n s a (nothing l) h = refl
-  own-notes Recorder n s a (looks l) h = refl
-  own-notes Recorder n s a (flags l) h = refl
-  own-notes Recorder n s a epoch h = refl
-  own-notes Recorder n s a (writes e) h = refl
-  own-notes Recorder n s a (take-slot e) h = refl
-  own-notes Recorder n s a store h = absurd (let u : _≡_ {A = ℕ} 0 1 = cc in omega arith)
-  own-notes Recorder n s a (ring l NotEmpty) h = refl
-  own-notes Recorder n s a (ring l NotFull) h = refl
-  own-notes Recorder n s a close h = refl
-  own-notes Recorder n s a shut h = refl
-  own-notes Recorder n s a wait h = refl
-  own-notes Recorder n s a (wake l b m) h = refl
-
   -- the epoch's turn counts anew
   pub counts-anew : (side : Side) → rungOf side (traced (nextAt Epoch side (p .counter)) p payload buffer t) ≡ 0
   counts-anew Sender = refl

@@ -24,12 +24,13 @@ use Rattle.rules.specs.Next.{nextAt}
 use Rattle.rules.specs.Access.{bufferOf}
 use Rattle.rules.specs.Calls.{sound, ready, at, named, pushSpec, popSpec, spuriousSpec}
 use Rattle.rules.specs.Bench.{settled, played, playedLeaves}
+use Rattle.rules.specs.Looks.{doorOf}
 use Rattle.rules.specs.Run.{Note, Trace, World, Happening, plays, partyIn, takes, traced, happens, opened, rungOf}
 use Rattle.rules.specs.Premises.{Typed, AllTyped, Fair, AllFair}
 use Rattle.rules.specs.Stretch.{moves, tickBy, ticks, Wills, Willing, beforeCopy, holdsEpoch}
 use Rattle.rules.specs.Claims.{Fresh, reached, Lasts}
 use Rattle.rules.specs.Phase.{phase}
-use Rattle.rules.proofs.Leads.{stopAt, Leads}
+use Rattle.rules.proofs.Leads.{Leads}
 use Rattle.rules.proofs.Does.{does, raises as ring}
 use Rattle.rules.proofs.Seats.{moved}
 use Rattle.rules.proofs.RealTurn.{next-step, leads-here, after-turn, turn-is-after, real-turned}
@@ -39,11 +40,11 @@ use Rattle.rules.proofs.Own.{waitsOn}
 use Rattle.rules.proofs.Costs.{Calls, calls-on}
 use Rattle.rules.proofs.Effects.{rung-own}
 use Rattle.rules.proofs.Listening.{mover-is, trace-is}
-use Rattle.rules.proofs.Bound.{Kind, rests, dreams as asleep, acts, kind, notes-kept}
+use Rattle.rules.proofs.Bound.{Kind, rests, dreams as asleep, acts, kind, notes-kept, notes-own, no-store}
 use Rattle.rules.proofs.Asks.{in-call, typed-both, fair-both}
 use Rattle.rules.proofs.Sized.{blankOf, Sized, sized-turn, sized-happens, sized-run, sized-start, nothing-fits, sound-here, takes-here}
 use Rattle.rules.proofs.Real.{roomIn, nth, blank, Real}
-use Rattle.reached.proofs.Lasts.{BigFine, EpochFine, before-on, big-turn, both-notes, counts-anew, epoch-on, fair-turn, own-notes, stays-open, under-way}
+use Rattle.reached.proofs.Lasts.{BigFine, EpochFine, before-on, big-turn, both-notes, counts-anew, epoch-on, fair-turn, stays-open, under-way}
 
 module _ (P S v : ℕ) (on : Bool) (power-ok : powerOk P ≡ true) (slot-ok : slotOk S ≡ true) where
   record Able (side : Side) (w : World) : Type 0 where
@@ -94,7 +95,7 @@ module _ (P S v : ℕ) (on : Bool) (power-ok : powerOk P ≡ true) (slot-ok : sl
     trail : after .trace ≡ told
     trail = trace-is P S v on power-ok slot-ok w (a .real) side lent lent Fine g
 
-    leads : Leads (roomIn P S v on side (w .trace)) (roomIn P S v on (other side) (w .trace)) (stopAt side (leAt 4 (w .region) flagsAt)) (p .blocking) (rings side on) (leAt 4 (w .region) (bellAt (sleepBell side))) s next
+    leads : Leads (roomIn P S v on side (w .trace)) (roomIn P S v on (other side) (w .trace)) (doorOf side (leAt 4 (w .region) flagsAt)) (p .blocking) (rings side on) (leAt 4 (w .region) (bellAt (sleepBell side))) s next
     leads = leads-here P S v on power-ok slot-ok w (a .real) side lent lent Fine g
 
     epoch-after : EpochFine side after
@@ -110,7 +111,7 @@ module _ (P S v : ℕ) (on : Bool) (power-ok : powerOk P ≡ true) (slot-ok : sl
     big-after r e n rest q =
         let b : beforeCopy s ≡ true = before-on _ _ _ _ _ _ s next leads (rw me at e) in
         let d = does side (p .counter) s in
-        let same = both-notes side (w .trace) told (own-notes p lent buffer (w .trace) side (p .counter) s (nextAt s side (p .counter)) d b) (notes-kept p lent buffer (w .trace) side (p .counter) s (nextAt s side (p .counter)) d) in
+        let same = both-notes side (w .trace) told (notes-own p lent buffer (w .trace) side (p .counter) s (nextAt s side (p .counter)) d (no-store beforeCopy s b (λ l g. refl))) (notes-kept p lent buffer (w .trace) side (p .counter) s (nextAt s side (p .counter)) d) in
         rw me (a .big-fine r b n rest (rw (trail, same .0, same .1) at q))
 
     able-after : Able side after

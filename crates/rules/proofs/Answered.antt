@@ -21,23 +21,23 @@ use Rattle.types.specs.declared.Fit.the-variants.{Bad, Small, Fits}
 use Rattle.types.specs.declared.Nap.{Nap}
 use Rattle.types.specs.declared.Nap.the-variants.{Sleeps, Returns, TimedOut, Fails}
 use Rattle.types.specs.declared.Step.{Step}
-use Rattle.types.specs.declared.Step.the-variants.{Rest, Look, Copy, Publish, Check, Raise, Wake, Gate, Epoch, Again, GateAgain, Wait, Asleep, CloseSet, CloseRaise, CloseWake, ShutSet, ShutRaiseNe, ShutWakeNe, ShutRaiseNf, ShutWakeNf}
+use Rattle.types.specs.declared.Step.the-variants.{Rest, Look, Copy, Publish, Check, Raise, Wake, Gate, Epoch, Again, GateAgain, Wait, Asleep, LastLook, CloseSet, CloseRaise, CloseWake, ShutSet, ShutRaiseNe, ShutWakeNe, ShutRaiseNf, ShutWakeNf}
 use Rattle.types.specs.declared.Move.the-variants.{To, End}
 use Rattle.types.specs.declared.Answer.{Answer}
-use Rattle.types.specs.declared.Answer.the-variants.{Done, CorruptIndices, Syscall}
+use Rattle.types.specs.declared.Answer.the-variants.{Done, CorruptIndices, Closed, Timeout, Syscall}
 use Rattle.layout.specs.Limits.{capacity, payloadCapacity}
 use Rattle.layout.specs.Create.{createChecks, createAnswer}
 use Rattle.layout.specs.Attach.{attachChecks, attachAnswer, attachReply}
 use Rattle.layout.specs.Slots.{headOf}
 use Rattle.rules.specs.Sides.{ringBell, sleepBell, rings, waitOp, wakeOp}
 use Rattle.rules.specs.Looks.{roomOf, wasBlocked, doorOf, fitOf, napOf}
-use Rattle.rules.specs.Steps.{roomMove, blockedMove, lookMove, fitMove, copyWith, copyMove, publishMove, checkMove, wakeMove, doorMove, gateMove, againMove, napMove, waitMove, closeMove, shutMove}
+use Rattle.rules.specs.Steps.{roomMove, blockedMove, lookMove, fitMove, copyWith, copyMove, publishMove, checkMove, wakeMove, doorMove, gateMove, againMove, napMove, waitMove, lastMove, closeMove, shutMove}
 use Rattle.rules.specs.Take.{stanceOf, moveAt, answerOf, moveOf, takeSpec}
 use Rattle.rules.specs.Next.{nextSpec}
 use Rattle.rules.specs.Access.{valueOf}
 use Rattle.rules.specs.Calls.{isSleeping, sound, ready, pushSpec, popSpec, closeSpec, shutSpec, spuriousSpec, timeoutSpec}
 use Rattle.rules.specs.Turn.{errorOf, taken, actSpec, turnSpec}
-use Rattle.rules.specs.Given.{Checked, passed, fails, holds, EndsWith, published, checked, woke, closed-alone, closed, shut, corrupt, bad-slot, too-small, full, empty, left, left-again, down, down-again, timed-out, wake-failed, close-failed, wait-failed, shut-failed, shut-failed-last, resting, asleep, goes-on, Ask, create, attach, push, pop, close, shutdown, spurious, timeout, turn, Given, created, attached, push-bad, pop-bad, close-bad, shutdown-bad, spurious-bad, timeout-bad, turn-bad, push-closed, pop-closed, close-closed, push-off, push-long, push-begun, pop-begun, close-begun, shutdown-begun, spurious-idle, timeout-idle, spurious-taken, timeout-taken, turn-taken, answered}
+use Rattle.rules.specs.Given.{Checked, passed, fails, holds, EndsWith, published, checked, woke, closed-alone, closed, shut, corrupt, bad-slot, too-small, full, empty, left, left-again, none-left, down, down-again, timed-out, wake-failed, close-failed, wait-failed, shut-failed, shut-failed-last, resting, asleep, goes-on, Ask, create, attach, push, pop, close, shutdown, spurious, timeout, turn, Given, created, attached, push-bad, pop-bad, close-bad, shutdown-bad, spurious-bad, timeout-bad, turn-bad, push-closed, pop-closed, close-closed, push-off, push-long, push-begun, pop-begun, close-begun, shutdown-begun, spurious-idle, timeout-idle, spurious-taken, timeout-taken, turn-taken, answered}
 
 -- a list of checks
 pub checked-first : (cs : List Test) → Checked cs (firstOf cs)
@@ -52,7 +52,7 @@ checked-only (holds e c) = rw e (checked-only c)
 
 -- a turn, by its step: no other answer than its row's
 pub ends-only : {p : Party} {v e : ℕ} {x : Answer} → EndsWith p v e x → answerOf (moveOf p v e) ≡ x
-unfolding moveOf lookMove copyMove publishMove checkMove wakeMove gateMove waitMove closeMove shutMove
+unfolding moveOf lookMove copyMove publishMove checkMove wakeMove gateMove waitMove lastMove closeMove shutMove
 ends-only (published s r) = rw (s, r)
 ends-only (checked s b) = rw (s, b)
 ends-only (woke s z) = rw (s, z)
@@ -64,11 +64,12 @@ ends-only (bad-slot s q f) = rw (s, q, f)
 ends-only (too-small s q f) = rw (s, q, f)
 ends-only (full s q b r) = rw (s, q, b, r)
 ends-only (empty s q b r) = rw (s, q, b, r)
-ends-only (left s d) = rw (s, d)
-ends-only (left-again s d) = rw (s, d)
+ends-only (left s q d) = rw (s, q, d)
+ends-only (left-again s q d) = rw (s, q, d)
+ends-only (none-left s r) = rw (s, r)
 ends-only (down s d) = rw (s, d)
 ends-only (down-again s d) = rw (s, d)
-ends-only (timed-out s n) = rw (s, n)
+ends-only (timed-out s r) = rw (s, r)
 ends-only (wake-failed s z) = rw (s, z)
 ends-only (close-failed s z) = rw (s, z)
 ends-only (wait-failed s n) = rw (s, n)
@@ -119,17 +120,19 @@ module _ (p : Party) (v e : ℕ) where
   wake-ends l t s true h = woke s h
   wake-ends l t s false h = wake-failed s h
 
-  gate-ends : p .step ≡ Gate → (d : Door) → doorOf (p .own .side) v ≡ d → EndsWith p v e (answerOf (doorMove d Epoch))
+  gate-ends : p .step ≡ Gate → (side : Side) → p .own .side ≡ side → (d : Door) → doorOf side v ≡ d → EndsWith p v e (answerOf (doorMove d side Epoch))
   unfolding moveOf gateMove
-  gate-ends s Shut h = down s h
-  gate-ends s Left h = left s h
-  gate-ends s Open h = goes-on {s = Epoch} (rw (s, h))
+  gate-ends s side o Shut h = down s (rw o h)
+  gate-ends s Sender o Left h = left s o h
+  gate-ends s Recorder o Left h = goes-on {s = LastLook false} (rw (s, o, h))
+  gate-ends s side o Open h = goes-on {s = Epoch} (rw (s, o, h))
 
-  gate-again-ends : (n : ℕ) → p .step ≡ GateAgain n → (d : Door) → doorOf (p .own .side) v ≡ d → EndsWith p v e (answerOf (doorMove d (Wait n)))
+  gate-again-ends : (n : ℕ) → p .step ≡ GateAgain n → (side : Side) → p .own .side ≡ side → (d : Door) → doorOf side v ≡ d → EndsWith p v e (answerOf (doorMove d side (Wait n)))
   unfolding moveOf gateMove
-  gate-again-ends n s Shut h = down-again s h
-  gate-again-ends n s Left h = left-again s h
-  gate-again-ends n s Open h = goes-on {s = Wait n} (rw (s, h))
+  gate-again-ends n s side o Shut h = down-again s (rw o h)
+  gate-again-ends n s Sender o Left h = left-again s o h
+  gate-again-ends n s Recorder o Left h = goes-on {s = LastLook false} (rw (s, o, h))
+  gate-again-ends n s side o Open h = goes-on {s = Wait n} (rw (s, o, h))
 
   again-ends : (n : ℕ) → p .step ≡ Again n → (r : Room) → room-here ≡ r → EndsWith p v e (answerOf (roomMove r (To (GateAgain n))))
   unfolding moveOf againMove
@@ -141,8 +144,15 @@ module _ (p : Party) (v e : ℕ) where
   unfolding moveOf waitMove
   wait-ends n s Sleeps h = goes-on {s = Asleep} (rw (s, h))
   wait-ends n s Returns h = goes-on {s = Look} (rw (s, h))
-  wait-ends n s TimedOut h = timed-out s h
+  wait-ends n s TimedOut h = goes-on {s = LastLook true} (rw (s, h))
   wait-ends n s Fails h = wait-failed s h
+
+  last-ends : (timed : Bool) → p .step ≡ LastLook timed → (r : Room) → room-here ≡ r → EndsWith p v e (answerOf (roomMove r (End (pick timed Timeout Closed))))
+  unfolding moveOf lastMove
+  last-ends timed s Corrupt h = goes-on {s = ShutSet true} (rw (s, h))
+  last-ends true s Blocked h = timed-out s h
+  last-ends false s Blocked h = none-left s h
+  last-ends timed s Free h = goes-on {s = Copy} (rw (s, h))
 
   close-set-ends : p .step ≡ CloseSet → (b : Bool) → rings (p .own .side) (p .own .notfull) ≡ b → EndsWith p v e (answerOf (pick b (To CloseRaise) (End (Done 0 0))))
   unfolding moveOf closeMove
@@ -161,7 +171,7 @@ module _ (p : Party) (v e : ℕ) where
   shut-ends false n s true h false k = shut-failed-last s h k
 
   step-ends : (s : Step) → p .step ≡ s → EndsWith p v e (answerOf (moveAt s (p .own) (p .counter) (p .blocking) (p .length) v e))
-  unfolding moveOf lookMove copyMove publishMove checkMove wakeMove gateMove againMove waitMove closeMove shutMove
+  unfolding moveOf lookMove copyMove publishMove checkMove wakeMove gateMove againMove waitMove lastMove closeMove shutMove
   step-ends Rest s = resting s
   step-ends Look s = look-ends s room-here refl (p .blocking) refl (p .own .side) refl
   step-ends Copy s = copy-ends s (p .own .side) refl fit-here refl
@@ -169,12 +179,13 @@ module _ (p : Party) (v e : ℕ) where
   step-ends (Check l t) s = check-ends l t s (wasBlocked (p .own .side) (capacity (p .own .power)) (p .counter) v) refl
   step-ends (Raise l t) s = goes-on {s = Wake l t} (rw s)
   step-ends (Wake l t) s = wake-ends l t s (eqb e 0) refl
-  step-ends Gate s = gate-ends s (doorOf (p .own .side) v) refl
+  step-ends Gate s = gate-ends s (p .own .side) refl (doorOf (p .own .side) v) refl
   step-ends Epoch s = goes-on {s = Again (v % 2 ^ 32)} (rw s)
   step-ends (Again n) s = again-ends n s room-here refl
-  step-ends (GateAgain n) s = gate-again-ends n s (doorOf (p .own .side) v) refl
+  step-ends (GateAgain n) s = gate-again-ends n s (p .own .side) refl (doorOf (p .own .side) v) refl
   step-ends (Wait n) s = wait-ends n s (napOf e (eqb v n)) refl
   step-ends Asleep s = asleep s
+  step-ends (LastLook c) s = last-ends c s room-here refl
   step-ends CloseSet s = close-set-ends s (rings (p .own .side) (p .own .notfull)) refl
   step-ends CloseRaise s = goes-on {s = CloseWake} (rw s)
   step-ends CloseWake s = close-wake-ends s (eqb e 0) refl

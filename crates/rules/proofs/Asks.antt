@@ -11,12 +11,12 @@ use Rattle.types.specs.declared.Side.{Side}
 use Rattle.types.specs.declared.Side.the-variants.{Sender, Recorder}
 use Rattle.types.specs.declared.Party.{Party}
 use Rattle.types.specs.declared.Reply.{Reply}
-use Rattle.types.specs.declared.Answer.the-variants.{GoesOn, Timeout}
+use Rattle.types.specs.declared.Answer.the-variants.{GoesOn}
 use Rattle.types.specs.declared.Fault.{Fault}
 use Rattle.types.specs.declared.Fault.the-variants.{Fine, Error}
 use Rattle.types.specs.declared.Event.the-variants.{Turn, Failing, Spurious, TimeOut, Push, Pop, Close, Shutdown}
 use Rattle.types.specs.declared.Step.{Step}
-use Rattle.types.specs.declared.Step.the-variants.{Rest, Look, Copy, Publish, Check, Raise, Wake, Gate, Epoch, Again, GateAgain, Wait, Asleep, CloseSet, CloseRaise, CloseWake, ShutSet, ShutRaiseNe, ShutWakeNe, ShutRaiseNf, ShutWakeNf}
+use Rattle.types.specs.declared.Step.the-variants.{Rest, Look, Copy, Publish, Check, Raise, Wake, Gate, Epoch, Again, GateAgain, Wait, Asleep, LastLook, CloseSet, CloseRaise, CloseWake, ShutSet, ShutRaiseNe, ShutWakeNe, ShutRaiseNf, ShutWakeNf}
 use Rattle.types.specs.declared.Stance.{Stance}
 use Rattle.layout.specs.Limits.{powerOk, slotOk, payloadCapacity, capacity}
 use Rattle.layout.specs.Header.{flagsAt}
@@ -45,14 +45,14 @@ use Rattle.rules.proofs.Real.{roomIn, Real}
 pub data Asked (s : Step) : Step → Type 0 where
   stayed : Asked s s
   looks : Asked s Look
-  rests : Asked s Rest
+  glances : Asked s (LastLook true)
 
 step-of : (p q : Party) (x : Party) (F : Type 0) → Asked (p .step) (q .step) → (x ≡ p) ⊎ ((x ≡ q) × F) → Asked (p .step) (x .step)
 step-of p q x F a (inl e) = rw e stayed
 step-of p q x F a (inr e) = rw (e .0) a
 
 begun-asks : (p : Party) (g c o n : Bool) (q : Party) → q .step ≡ Look → Asked (p .step) (begins p g c o n q .party .step)
-begun-asks p g c o n q e = step-of p q (begins p g c o n q .party) ((g ≡ true) × (o ≡ false)) (rw e looks) (begins-one p g c o n q)
+begun-asks p g c o n q e = step-of p q (begins p g c o n q .party) ((g ≡ true) × ((c ≡ false) × (o ≡ false))) (rw e looks) (begins-one p g c o n q)
 
 roused-asks : (p : Party) (g s : Bool) (q : Reply) → Asked (p .step) (q .party .step) → Asked (p .step) (rouses p g s q .party .step)
 roused-asks p g s q a = step-of p (q .party) (rouses p g s q .party) ((g ≡ true) × (s ≡ true)) a (rouses-one p g s q)
@@ -71,12 +71,12 @@ spurious-asks side p = roused-asks p (sound side p) (isSleeping (stanceOf (p .st
 
 timeout-asks : (side : Side) (p : Party) → Asked (p .step) (timeoutSpec side p .party .step)
 unfolding timeoutSpec
-timeout-asks side p = roused-asks p (sound side p) (isSleeping (stanceOf (p .step))) (reply (at Rest p) Timeout) rests
+timeout-asks side p = roused-asks p (sound side p) (isSleeping (stanceOf (p .step))) (reply (at (LastLook true) p) GoesOn) glances
 
 asked-calls : (s u : Step) → Asked s u → Calls (phase s) → Calls (phase u)
 asked-calls s u stayed c = c
 asked-calls s u looks c = tt
-asked-calls s u rests c = tt
+asked-calls s u glances c = tt
 
 -- between calls, or asleep, to ask costs nothing
 asked-cost : (s u : Step) (k x : ℕ) → Asked s u → (s ≡ Rest) ⊎ (s ≡ Asleep) → cost u k x ≤ cost s k x
@@ -84,8 +84,8 @@ asked-cost s u zero x a f = omega arith
 asked-cost s u (suc k) x stayed f = omega arith
 asked-cost s u (suc k) x looks (inl e) = rw e (omega arith)
 asked-cost s u (suc k) x looks (inr e) = rw e (omega arith)
-asked-cost s u (suc k) x rests (inl e) = rw e (omega arith)
-asked-cost s u (suc k) x rests (inr e) = rw e (omega arith)
+asked-cost s u (suc k) x glances (inl e) = rw e (omega arith)
+asked-cost s u (suc k) x glances (inr e) = rw e (omega arith)
 
 pub in-call : (s : Step) → inCall s ≡ true → Calls (phase s)
 in-call Rest e = tt
@@ -101,6 +101,7 @@ in-call (Again f) e = tt
 in-call (GateAgain f) e = tt
 in-call (Wait f) e = tt
 in-call Asleep e = tt
+in-call (LastLook c) e = tt
 in-call CloseSet e = absurd (let z : _≡_ {A = ℕ} 0 1 = cc in omega arith)
 in-call CloseRaise e = absurd (let z : _≡_ {A = ℕ} 0 1 = cc in omega arith)
 in-call CloseWake e = absurd (let z : _≡_ {A = ℕ} 0 1 = cc in omega arith)

@@ -12,8 +12,9 @@ use Rattle.types.specs.declared.Side.the-variants.{Sender, Recorder}
 use Rattle.types.specs.declared.Bell.the-variants.{NotEmpty, NotFull}
 use Rattle.types.specs.declared.Party.{Party}
 use Rattle.types.specs.declared.Fault.{Fault}
+use Rattle.types.specs.declared.Door.{Door}
 use Rattle.types.specs.declared.Step.{Step}
-use Rattle.types.specs.declared.Step.the-variants.{Rest, Look, Copy, Publish, Check, Raise, Wake, Gate, Epoch, Again, GateAgain, Wait, Asleep, CloseSet, CloseRaise, CloseWake, ShutSet, ShutRaiseNe, ShutWakeNe, ShutRaiseNf, ShutWakeNf}
+use Rattle.types.specs.declared.Step.the-variants.{Rest, Look, Copy, Publish, Check, Raise, Wake, Gate, Epoch, Again, GateAgain, Wait, Asleep, LastLook, CloseSet, CloseRaise, CloseWake, ShutSet, ShutRaiseNe, ShutWakeNe, ShutRaiseNf, ShutWakeNf}
 use Rattle.types.specs.declared.Stance.{Stance}
 use Rattle.types.specs.declared.Stance.the-variants.{Resting, Sleeping, Copying, Publishing, Closing, Moving}
 use Rattle.types.specs.declared.Access.{Access}
@@ -27,7 +28,7 @@ use Rattle.rules.specs.Turn.{errorOf}
 use Rattle.rules.specs.Run.{Note, Trace, World, partyIn, takes, traced}
 use Rattle.rules.specs.Stretch.{moves, calling, countsBy, Big, notesOf}
 use Rattle.rules.specs.Phase.{phase}
-use Rattle.rules.proofs.Leads.{stopAt, Leads}
+use Rattle.rules.proofs.Leads.{Leads}
 use Rattle.rules.proofs.Does.{Does, does, nothing, looks, flags, reads, writes, takes as read, stores, raises, closes, shuts, waits as wait, wakes}
 use Rattle.rules.proofs.Taken.{turnWorld, turn-refused}
 use Rattle.rules.proofs.RealTurn.{own-is, counter-is, access-is, next-step, leads-here, after-turn, turn-is-after}
@@ -58,6 +59,7 @@ kind (Again f) = acts refl
 kind (GateAgain f) = acts refl
 kind (Wait f) = acts refl
 kind Asleep = dreams
+kind (LastLook c) = acts refl
 kind CloseSet = acts refl
 kind CloseRaise = acts refl
 kind CloseWake = acts refl
@@ -95,6 +97,7 @@ own-room-none (Again e) = refl
 own-room-none (GateAgain e) = refl
 own-room-none (Wait e) = refl
 own-room-none Asleep = refl
+own-room-none (LastLook c) = refl
 own-room-none CloseSet = refl
 own-room-none CloseRaise = refl
 own-room-none CloseWake = refl
@@ -119,7 +122,7 @@ pub by-calling : Count calling
 by-calling = record { all = moves-call; none-at-rest = refl }
 
 -- one turn: by the room, and by whether it counts. Where a sleeper's turns count, one with room does not sleep
-turn-cost : (counted : Stance → Bool) → Count counted → (k x : ℕ) (z m r : Bool) (b n : ℕ) (s next : Step) → Leads k x z m r b s next → Kind s → Calls (phase s) → (s ≡ Rest → next ≡ Rest) → (s ≡ Asleep → next ≡ Asleep)
+turn-cost : (counted : Stance → Bool) → Count counted → (k x : ℕ) (z : Door) (m r : Bool) (b n : ℕ) (s next : Step) → Leads k x z m r b s next → Kind s → Calls (phase s) → (s ≡ Rest → next ≡ Rest) → (s ≡ Asleep → next ≡ Asleep)
     → (counted Sleeping ≡ true → 0 < k → s ≡ Asleep → ⊥) → (0 < k → s ≡ Copy → next ≡ Rest → ⊥) → cost s k x ≤ pick (counted (stanceOf s)) 1 0 + n → cost next (ownRoom s k) (roomBy s x) ≤ n
 turn-cost counted count zero x z m r b n s next leads kind c i a j f h = omega (arith, cost-zero s next (roomBy s x))
 turn-cost counted count (suc k) x z m r b n s next leads rests c i a j f h =
@@ -164,6 +167,41 @@ module _ (p : Party) (payload buffer : List ℕ) (t : Trace) where
   notes-kept Recorder n s a wait = refl
   notes-kept Recorder n s a (wakes l b m) = refl
 
+  -- and its own where it stores its counter alone
+  pub notes-own : (side : Side) (n : ℕ) (s : Step) (a : Access) → Does side n s a → ((l g : ℕ) → s ≡ Publish l g → ⊥) → notesOf side (traced a p payload buffer t) ≡ notesOf side t
+  notes-own Sender n s a (nothing l) h = refl
+  notes-own Sender n s a (looks l) h = refl
+  notes-own Sender n s a (flags l) h = refl
+  notes-own Sender n s a reads h = refl
+  notes-own Sender n s a (writes e) h = refl
+  notes-own Sender n s a (read e) h = refl
+  notes-own Sender n s a stores h = absurd (h _ _ refl)
+  notes-own Sender n s a (raises l NotEmpty) h = refl
+  notes-own Sender n s a (raises l NotFull) h = refl
+  notes-own Sender n s a closes h = refl
+  notes-own Sender n s a shuts h = refl
+  notes-own Sender n s a wait h = refl
+  notes-own Sender n s a (wakes l b m) h = refl
+  notes-own Recorder n s a (nothing l) h = refl
+  notes-own Recorder n s a (looks l) h = refl
+  notes-own Recorder n s a (flags l) h = refl
+  notes-own Recorder n s a reads h = refl
+  notes-own Recorder n s a (writes e) h = refl
+  notes-own Recorder n s a (read e) h = refl
+  notes-own Recorder n s a stores h = absurd (h _ _ refl)
+  notes-own Recorder n s a (raises l NotEmpty) h = refl
+  notes-own Recorder n s a (raises l NotFull) h = refl
+  notes-own Recorder n s a closes h = refl
+  notes-own Recorder n s a shuts h = refl
+  notes-own Recorder n s a wait h = refl
+  notes-own Recorder n s a (wakes l b m) h = refl
+
+-- a step that is told from a store by any test
+pub no-store : (F : Step → Bool) (s : Step) → F s ≡ true → ((l g : ℕ) → F (Publish l g) ≡ false) → (l g : ℕ) → s ≡ Publish l g → ⊥
+no-store F s e h l g q =
+    let u : true ≡ false = sym e ∙ ap F q ∙ h l g in
+    let z : _≡_ {A = ℕ} 0 1 = cc in omega arith
+
 pub has-cause : (k : ℕ) (z : Bool) → 0 < k → Cause k z
 has-cause zero z h = absurd (omega arith)
 has-cause (suc k) z h = tt
@@ -193,9 +231,6 @@ module _ (P S v : ℕ) (on : Bool) where
 
     abbrev k : ℕ
     k = roomIn P S v on side t
-
-    abbrev z : Bool
-    z = stopAt side (leAt 4 (w .region) flagsAt)
 
     module _ (g : takes w side payload lent fault ≡ true) where
       abbrev next : Step

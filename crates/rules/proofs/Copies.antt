@@ -10,7 +10,7 @@ use lib.Seq.{take-at}
 use Rattle.words.specs.Wrap.{plus}
 use Rattle.types.specs.declared.Side.the-variants.{Sender, Recorder}
 use Rattle.types.specs.declared.Step.{Step}
-use Rattle.types.specs.declared.Step.the-variants.{Rest, Look, Copy, Publish, Check, Raise, Wake, Gate, Epoch, Again, GateAgain, Wait, Asleep, CloseSet, CloseRaise, CloseWake, ShutSet, ShutRaiseNe, ShutWakeNe, ShutRaiseNf, ShutWakeNf}
+use Rattle.types.specs.declared.Step.the-variants.{Rest, Look, Copy, Publish, Check, Raise, Wake, Gate, Epoch, Again, GateAgain, Wait, Asleep, LastLook, CloseSet, CloseRaise, CloseWake, ShutSet, ShutRaiseNe, ShutWakeNe, ShutRaiseNf, ShutWakeNf}
 use Rattle.types.specs.declared.SlotHead.{SlotHead}
 use Rattle.types.specs.declared.Own.{Own}
 use Rattle.types.specs.declared.Fit.{Fit}
@@ -44,6 +44,7 @@ is-copy (Again n) = inr (λ e. let z : _≡_ {A = ℕ} 0 1 = cc in omega arith)
 is-copy (GateAgain n) = inr (λ e. let z : _≡_ {A = ℕ} 0 1 = cc in omega arith)
 is-copy (Wait n) = inr (λ e. let z : _≡_ {A = ℕ} 0 1 = cc in omega arith)
 is-copy Asleep = inr (λ e. let z : _≡_ {A = ℕ} 0 1 = cc in omega arith)
+is-copy (LastLook c) = inr (λ e. let z : _≡_ {A = ℕ} 0 1 = cc in omega arith)
 is-copy CloseSet = inr (λ e. let z : _≡_ {A = ℕ} 0 1 = cc in omega arith)
 is-copy CloseRaise = inr (λ e. let z : _≡_ {A = ℕ} 0 1 = cc in omega arith)
 is-copy CloseWake = inr (λ e. let z : _≡_ {A = ℕ} 0 1 = cc in omega arith)

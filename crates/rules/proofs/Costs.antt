@@ -3,10 +3,11 @@ use mathlib.Core.Path.{_≡_, refl}
 use mathlib.Core.Bool.{Bool}
 use Prim.Native.Nat.{ℕ, zero, suc, _+_, _*_, _-_, _≤_}
 use native.Mathlib.Omega.{arith}
+use Rattle.types.specs.declared.Door.{Door}
 use Rattle.types.specs.declared.Step.{Step}
-use Rattle.types.specs.declared.Step.the-variants.{Rest, Look, Copy, Publish, Check, Raise, Wake, Gate, Epoch, Again, GateAgain, Wait, Asleep, CloseSet, CloseRaise, CloseWake, ShutSet, ShutRaiseNe, ShutWakeNe, ShutRaiseNf, ShutWakeNf}
-use Rattle.rules.specs.Phase.{Phase, resting, looking, copying, publishing, telling, asking, armed, poised, waits, sleeps, leaving, phase}
-use Rattle.rules.proofs.Leads.{Leads, idles, finds, blocks, gives-up, copies, spills, tells, stores, owes, passes, raises, wakes, enters, stops, reads, finds-again, stays, enters-again, stops-again, returns, ends, dreams, closes, closes-alone, close-raises, close-wakes, shuts, shut-raises, shut-wakes, shut-raises-again, shut-wakes-again, sleeps as falls-asleep}
+use Rattle.types.specs.declared.Step.the-variants.{Rest, Look, Copy, Publish, Check, Raise, Wake, Gate, Epoch, Again, GateAgain, Wait, Asleep, LastLook, CloseSet, CloseRaise, CloseWake, ShutSet, ShutRaiseNe, ShutWakeNe, ShutRaiseNf, ShutWakeNf}
+use Rattle.rules.specs.Phase.{Phase, resting, looking, copying, publishing, telling, asking, armed, poised, waits, sleeps, glancing, leaving, phase}
+use Rattle.rules.proofs.Leads.{Leads, idles, finds, blocks, gives-up, copies, spills, tells, stores, owes, passes, raises, wakes, enters, stops, reads, finds-again, stays, enters-again, stops-again, returns, ends, dreams, glances, glances-again, times-out, finds-last, finds-none, closes, closes-alone, close-raises, close-wakes, shuts, shut-raises, shut-wakes, shut-raises-again, shut-wakes-again, sleeps as falls-asleep}
 use Rattle.rules.proofs.Heard.{roomBy}
 
 -- two turns more for the one store that finds the other blocked
@@ -33,6 +34,7 @@ ahead (Again e) x = 2 + extra x
 ahead (GateAgain e) x = 4 + extra x
 ahead (Wait e) x = 3 + extra x
 ahead Asleep x = 2 + extra x
+ahead (LastLook c) x = 2 + extra x
 ahead CloseSet x = 0
 ahead CloseRaise x = 0
 ahead CloseWake x = 0
@@ -65,6 +67,7 @@ ahead-le (Again e) x h g = omega arith
 ahead-le (GateAgain e) x h g = omega arith
 ahead-le (Wait e) x h g = omega arith
 ahead-le Asleep x h g = omega arith
+ahead-le (LastLook c) x h g = omega arith
 ahead-le CloseSet x h g = omega arith
 ahead-le CloseRaise x h g = omega arith
 ahead-le CloseWake x h g = omega arith
@@ -94,6 +97,7 @@ Calls (armed e) = Unit
 Calls (poised e) = Unit
 Calls (waits e) = Unit
 Calls sleeps = Unit
+Calls glancing = Unit
 Calls leaving = ⊥
 
 -- the own room after a turn
@@ -111,6 +115,7 @@ ownRoom (Again e) k = k
 ownRoom (GateAgain e) k = k
 ownRoom (Wait e) k = k
 ownRoom Asleep k = k
+ownRoom (LastLook c) k = k
 ownRoom CloseSet k = k
 ownRoom CloseRaise k = k
 ownRoom CloseWake k = k
@@ -140,7 +145,7 @@ passed-cost l t k (suc zero) h = absurd (h refl)
 passed-cost l t k (suc (suc x)) h = omega arith
 
 -- with room, a turn of a call takes one off the cost, where a pop's copy fits
-pub fall : (k x : ℕ) (z m r : Bool) (b : ℕ) (s next : Step) → Leads (suc k) x z m r b s next → Calls (phase s) → (s ≡ Rest → ⊥) → (s ≡ Asleep → ⊥) → (s ≡ Copy → next ≡ Rest → ⊥)
+pub fall : (k x : ℕ) (z : Door) (m r : Bool) (b : ℕ) (s next : Step) → Leads (suc k) x z m r b s next → Calls (phase s) → (s ≡ Rest → ⊥) → (s ≡ Asleep → ⊥) → (s ≡ Copy → next ≡ Rest → ⊥)
     → suc (cost next (ownRoom s (suc k)) (roomBy s x)) ≤ cost s (suc k) x
 fall k x z m r b s next idles c i j f = absurd (i refl)
 fall k x z m r b s next (finds h) c i j f = omega arith
@@ -165,6 +170,11 @@ fall k x z m r b s next (falls-asleep h) c i j f = omega arith
 fall k x z m r b s next returns c i j f = omega arith
 fall k x z m r b s next ends c i j f = omega arith
 fall k x z m r b s next dreams c i j f = absurd (j refl)
+fall k x z m r b s next (glances h) c i j f = omega arith
+fall k x z m r b s next (glances-again h) c i j f = omega arith
+fall k x z m r b s next times-out c i j f = omega arith
+fall k x z m r b s next (finds-last h) c i j f = omega arith
+fall k x z m r b s next (finds-none h) c i j f = absurd (omega arith)
 fall k x z m r b s next (closes h) c i j f = absurd c
 fall k x z m r b s next (closes-alone h) c i j f = absurd c
 fall k x z m r b s next close-raises c i j f = absurd c
@@ -176,7 +186,7 @@ fall k x z m r b s next shut-raises-again c i j f = absurd c
 fall k x z m r b s next shut-wakes-again c i j f = absurd c
 
 -- a turn stays in the call or ends it
-pub calls-on : (k x : ℕ) (z m r : Bool) (b : ℕ) (s next : Step) → Leads k x z m r b s next → Calls (phase s) → Calls (phase next)
+pub calls-on : (k x : ℕ) (z : Door) (m r : Bool) (b : ℕ) (s next : Step) → Leads k x z m r b s next → Calls (phase s) → Calls (phase next)
 calls-on k x z m r b s next idles c = tt
 calls-on k x z m r b s next (finds h) c = tt
 calls-on k x z m r b s next (blocks h q) c = tt
@@ -200,6 +210,11 @@ calls-on k x z m r b s next (falls-asleep h) c = tt
 calls-on k x z m r b s next returns c = tt
 calls-on k x z m r b s next ends c = tt
 calls-on k x z m r b s next dreams c = tt
+calls-on k x z m r b s next (glances h) c = tt
+calls-on k x z m r b s next (glances-again h) c = tt
+calls-on k x z m r b s next times-out c = tt
+calls-on k x z m r b s next (finds-last h) c = tt
+calls-on k x z m r b s next (finds-none h) c = tt
 calls-on k x z m r b s next (closes h) c = absurd c
 calls-on k x z m r b s next (closes-alone h) c = tt
 calls-on k x z m r b s next close-raises c = absurd c

@@ -27,8 +27,9 @@ use Rattle.rules.specs.Next.{nextAt, nextSpec}
 use Rattle.rules.specs.Access.{valueOf, bufferOf}
 use Rattle.rules.specs.Turn.{errorOf, actSpec}
 use Rattle.rules.specs.Bench.{settled, played, playedLeaves}
-use Rattle.rules.specs.Run.{Note, Trace, World, plays, partyIn, carried, traced, happens}
-use Rattle.rules.specs.Claims.{turnOf, Delivering, publishes, checks, wakes, Carries, Fresh, reached, DoneCarries, GetsAll}
+use Rattle.rules.specs.Premises.{AllTyped}
+use Rattle.rules.specs.Run.{Note, Trace, World, Happening, plays, partyIn, carried, traced, happens}
+use Rattle.rules.specs.Claims.{waiting, turnOf, Delivering, publishes, checks, wakes, Carries, Fresh, reached, DoneCarries, GetsAll}
 use Rattle.rules.specs.Phase.{phase}
 use Rattle.rules.proofs.Leaving.{turn-is}
 use Rattle.rules.proofs.Taken.{turnWorld}
@@ -91,14 +92,17 @@ module _ (r : List ℕ) (P S : ℕ) (on : Bool) (v : ℕ) (fresh : Fresh r P S o
       ap (λ (u : World). u .trace) (turn-happens payload lent fault w ∙ turn-is-after P S v on pow slo w real Recorder payload lent fault g) ∙ trace-is P S v on pow slo w real Recorder payload lent fault g in
       subst (Carries l t) (sym last) (rw (← n .0, ← n .1) held)
 
-  -- nothing waits, and what was sent is what it was
+  -- where nothing waits, all that was sent has been delivered
   empty-list : (rest : List Note) → length rest ≡ 0 → rest ≡ []
   empty-list [] e = refl
   empty-list (n ∷ rest) e = absurd (omega arith)
 
+  pub all-delivered : (hs : List Happening) → AllTyped hs → waiting (reached r P S on v hs) ≡ 0 → reached r P S on v hs .trace .sent ≡ reached r P S on v hs .trace .delivered
+  all-delivered hs t b =
+      let u = reached r P S on v hs in
+      let o = in-order r P S on v fresh hs t in
+      let e : o .1 .0 ≡ [] = empty-list (o .1 .0) (o .1 .2 ∙ b) in
+      o .1 .1 ∙ ap (λ (x : List Note). u .trace .delivered ++ x) e ∙ append-nil (u .trace .delivered)
+
   pub gets-all : GetsAll r P S on v
-  gets-all hs ms t b =
-      let u = reached r P S on v (hs ++ ms) in
-      let o = in-order r P S on v fresh (hs ++ ms) t in
-      let e : o .1 .0 ≡ [] = empty-list (o .1 .0) (o .1 .2 ∙ b .0) in
-      sym (o .1 .1 ∙ ap (λ (x : List Note). u .trace .delivered ++ x) e ∙ append-nil (u .trace .delivered)) ∙ b .1
+  gets-all hs ms t b = sym (all-delivered (hs ++ ms) t (b .0)) ∙ b .1

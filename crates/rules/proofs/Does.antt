@@ -9,7 +9,7 @@ use Rattle.types.specs.declared.Bell.{Bell}
 use Rattle.types.specs.declared.Bell.the-variants.{NotEmpty, NotFull}
 use Rattle.types.specs.declared.Mark.the-variants.{Shutdown}
 use Rattle.types.specs.declared.Step.{Step}
-use Rattle.types.specs.declared.Step.the-variants.{Rest, Look, Copy, Publish, Check, Raise, Wake, Gate, Epoch, Again, GateAgain, Wait, Asleep, CloseSet, CloseRaise, CloseWake, ShutSet, ShutRaiseNe, ShutWakeNe, ShutRaiseNf, ShutWakeNf}
+use Rattle.types.specs.declared.Step.the-variants.{Rest, Look, Copy, Publish, Check, Raise, Wake, Gate, Epoch, Again, GateAgain, Wait, Asleep, LastLook, CloseSet, CloseRaise, CloseWake, ShutSet, ShutRaiseNe, ShutWakeNe, ShutRaiseNf, ShutWakeNf}
 use Rattle.types.specs.declared.Access.{Access}
 use Rattle.types.specs.declared.Access.the-variants.{None, LoadCounter, LoadFlags, LoadBell, WriteSlot, ReadSlot, StoreCounter, RaiseBell, SetFlag, WaitBell, WakeBell}
 use Rattle.layout.specs.Flags.{closeMark}
@@ -57,6 +57,7 @@ does side n (Again e) = looks (plain (Again e) (λ n. refl) (λ b. refl))
 does side n (GateAgain e) = flags (plain (GateAgain e) (λ n. refl) (λ b. refl))
 does side n (Wait e) = waits
 does side n Asleep = nothing (plain Asleep (λ n. refl) (λ b. refl))
+does side n (LastLook c) = looks (plain (LastLook c) (λ n. refl) (λ b. refl))
 does side n CloseSet = closes
 does side n CloseRaise = raises (plain CloseRaise (λ n. refl) (λ b. refl)) (ringBell side)
 does side n CloseWake = wakes (plain CloseWake (λ n. refl) (λ b. refl)) (ringBell side) 2147483647

@@ -12,12 +12,15 @@ use Rattle.types.specs.declared.Party.{Party}
 use Rattle.types.specs.declared.Fault.the-variants.{Fine}
 use Rattle.types.specs.declared.Event.the-variants.{Turn, Failing, Spurious, TimeOut, Push, Pop, Close, Shutdown}
 use Rattle.types.specs.declared.Access.{Access}
+use Rattle.types.specs.declared.Door.{Door}
+use Rattle.types.specs.declared.Door.the-variants.{Open}
 use Rattle.types.specs.declared.Step.{Step}
 use Rattle.types.specs.declared.Step.the-variants.{Rest, Look, Wait, Asleep}
 use Rattle.layout.specs.Limits.{powerOk, slotOk}
 use Rattle.layout.specs.Header.{flagsAt, bellAt}
 use Rattle.layout.specs.Create.{created}
 use Rattle.rules.specs.Sides.{other, rings, sleepBell}
+use Rattle.rules.specs.Looks.{doorOf}
 use Rattle.rules.specs.Take.{stanceOf, stepAfter, moveAt, moveOf}
 use Rattle.rules.specs.Next.{nextAt, nextSpec}
 use Rattle.rules.specs.Access.{valueOf, bufferOf}
@@ -27,7 +30,7 @@ use Rattle.rules.specs.Stretch.{moves, countsBy, ticks, inWait, Turns}
 use Rattle.rules.specs.Claims.{Fresh, reached, FallsAsleep}
 use Rattle.rules.proofs.After.{bell-after}
 use Rattle.rules.proofs.Kept.{header-in}
-use Rattle.rules.proofs.Leads.{stopAt, Leads}
+use Rattle.rules.proofs.Leads.{stopAt, stop-barred, open-door, Leads}
 use Rattle.rules.proofs.Taken.{turnWorld, turn-refused}
 use Rattle.rules.proofs.Seats.{moved}
 use Rattle.rules.proofs.RealTurn.{access-is, next-step, leads-here, after-turn, turn-is-after, real-turned}
@@ -79,11 +82,11 @@ module _ (P S v : ℕ) (on : Bool) (power-ok : powerOk P ≡ true) (slot-ok : sl
         let at : value ≡ bell side w = ap (valueOf (w .region) (p .own)) (access-is P S v on power-ok slot-ok w (d .real) side payload lent Fine g ∙ ap (λ (u : Step). nextAt u side (p .counter)) q) in
         ap (λ (u : Step). stepAfter (moveAt u (p .own) (p .counter) (p .blocking) (p .length) value 0) u) q ∙ nap-step (p .own) value e ∙ ap (λ (u : ℕ). pick (eqb u e) Asleep Look) at
 
-    leads : Leads 0 (roomIn P S v on (other side) (w .trace)) false true (rings side on) (bell side w) s next
+    leads : Leads 0 (roomIn P S v on (other side) (w .trace)) Open true (rings side on) (bell side w) s next
     leads =
-        subst (λ (m : Bool). Leads 0 (roomIn P S v on (other side) (w .trace)) false m (rings side on) (bell side w) s next) (d .blocking)
-        (subst (λ (z : Bool). Leads 0 (roomIn P S v on (other side) (w .trace)) z (p .blocking) (rings side on) (bell side w) s next) (d .clear)
-        (subst (λ (k : ℕ). Leads k (roomIn P S v on (other side) (w .trace)) (stopAt side (leAt 4 (w .region) flagsAt)) (p .blocking) (rings side on) (bell side w) s next) (d .room)
+        subst (λ (m : Bool). Leads 0 (roomIn P S v on (other side) (w .trace)) Open m (rings side on) (bell side w) s next) (d .blocking)
+        (subst (λ (z : Door). Leads 0 (roomIn P S v on (other side) (w .trace)) z (p .blocking) (rings side on) (bell side w) s next) (open-door _ (stop-barred side (leAt 4 (w .region) flagsAt) ∙ d .clear))
+        (subst (λ (k : ℕ). Leads k (roomIn P S v on (other side) (w .trace)) (doorOf side (leAt 4 (w .region) flagsAt)) (p .blocking) (rings side on) (bell side w) s next) (d .room)
         (leads-here P S v on power-ok slot-ok w (d .real) side payload lent Fine g)))
 
     drowses : (inWait next ≡ true) × (toSleep (bell side w) next ≤ less (toSleep (bell side w) s))

@@ -9,7 +9,7 @@ use Rattle.types.specs.declared.Side.{Side}
 use Rattle.types.specs.declared.Side.the-variants.{Sender, Recorder}
 use Rattle.types.specs.declared.Party.{Party}
 use Rattle.types.specs.declared.Step.{Step}
-use Rattle.types.specs.declared.Step.the-variants.{Rest, Look, Copy, Publish, Check, Raise, Wake, Gate, Epoch, Again, GateAgain, Wait, Asleep, CloseSet, CloseRaise, CloseWake, ShutSet, ShutRaiseNe, ShutWakeNe, ShutRaiseNf, ShutWakeNf}
+use Rattle.types.specs.declared.Step.the-variants.{Rest, Look, Copy, Publish, Check, Raise, Wake, Gate, Epoch, Again, GateAgain, Wait, Asleep, LastLook, CloseSet, CloseRaise, CloseWake, ShutSet, ShutRaiseNe, ShutWakeNe, ShutRaiseNf, ShutWakeNf}
 use Rattle.rules.specs.Sides.{other}
 use Rattle.rules.specs.Next.{nextAt}
 use Rattle.rules.specs.Run.{Trace, carried, traced, rungOf}
@@ -40,6 +40,7 @@ module _ (p : Party) (payload buffer : List ℕ) (t : Trace) where
   rung-other Sender (GateAgain e) = refl
   rung-other Sender (Wait e) = refl
   rung-other Sender Asleep = refl
+  rung-other Sender (LastLook c) = refl
   rung-other Sender CloseSet = refl
   rung-other Sender CloseRaise = refl
   rung-other Sender CloseWake = refl
@@ -61,6 +62,7 @@ module _ (p : Party) (payload buffer : List ℕ) (t : Trace) where
   rung-other Recorder (GateAgain e) = refl
   rung-other Recorder (Wait e) = refl
   rung-other Recorder Asleep = refl
+  rung-other Recorder (LastLook c) = refl
   rung-other Recorder CloseSet = refl
   rung-other Recorder CloseRaise = refl
   rung-other Recorder CloseWake = refl
@@ -85,6 +87,7 @@ module _ (p : Party) (payload buffer : List ℕ) (t : Trace) where
   rung-own side (GateAgain e) h = refl
   rung-own side (Wait e) h = refl
   rung-own side Asleep h = refl
+  rung-own side (LastLook c) h = refl
   rung-own side CloseSet h = absurd (let z : _≡_ {A = ℕ} 0 1 = cc in omega arith)
   rung-own side CloseRaise h = absurd (let z : _≡_ {A = ℕ} 0 1 = cc in omega arith)
   rung-own side CloseWake h = absurd (let z : _≡_ {A = ℕ} 0 1 = cc in omega arith)
@@ -120,6 +123,7 @@ module _ (p : Party) (payload buffer : List ℕ) (t : Trace) where
     room-own-is Sender (GateAgain e) h = refl
     room-own-is Sender (Wait e) h = refl
     room-own-is Sender Asleep h = refl
+    room-own-is Sender (LastLook c) h = refl
     room-own-is Sender CloseSet h = refl
     room-own-is Sender CloseRaise h = refl
     room-own-is Sender CloseWake h = refl
@@ -141,6 +145,7 @@ module _ (p : Party) (payload buffer : List ℕ) (t : Trace) where
     room-own-is Recorder (GateAgain e) h = refl
     room-own-is Recorder (Wait e) h = refl
     room-own-is Recorder Asleep h = refl
+    room-own-is Recorder (LastLook c) h = refl
     room-own-is Recorder CloseSet h = refl
     room-own-is Recorder CloseRaise h = refl
     room-own-is Recorder CloseWake h = refl
@@ -164,6 +169,7 @@ module _ (p : Party) (payload buffer : List ℕ) (t : Trace) where
     room-other-is Sender (GateAgain e) h = refl
     room-other-is Sender (Wait e) h = refl
     room-other-is Sender Asleep h = refl
+    room-other-is Sender (LastLook c) h = refl
     room-other-is Sender CloseSet h = refl
     room-other-is Sender CloseRaise h = refl
     room-other-is Sender CloseWake h = refl
@@ -185,6 +191,7 @@ module _ (p : Party) (payload buffer : List ℕ) (t : Trace) where
     room-other-is Recorder (GateAgain e) h = refl
     room-other-is Recorder (Wait e) h = refl
     room-other-is Recorder Asleep h = refl
+    room-other-is Recorder (LastLook c) h = refl
     room-other-is Recorder CloseSet h = refl
     room-other-is Recorder CloseRaise h = refl
     room-other-is Recorder CloseWake h = refl
@@ -210,6 +217,7 @@ flags-still side n f (Again e) h = refl
 flags-still side n f (GateAgain e) h = refl
 flags-still side n f (Wait e) h = refl
 flags-still side n f Asleep h = refl
+flags-still side n f (LastLook c) h = refl
 flags-still side n f CloseSet h = absurd (let z : _≡_ {A = ℕ} 0 1 = cc in omega arith)
 flags-still side n f CloseRaise h = refl
 flags-still side n f CloseWake h = refl
@@ -233,6 +241,7 @@ waits-still (Again e) h = refl
 waits-still (GateAgain e) h = refl
 waits-still (Wait e) h = refl
 waits-still Asleep h = refl
+waits-still (LastLook c) h = refl
 waits-still CloseSet h = absurd (let z : _≡_ {A = ℕ} 0 1 = cc in omega arith)
 waits-still CloseRaise h = refl
 waits-still CloseWake h = refl

@@ -8,7 +8,6 @@ use native.Mathlib.Omega.{arith}
 use Rattle.words.specs.Le.{leAt}
 use Rattle.types.specs.Pick.{pick}
 use Rattle.types.specs.declared.Side.{Side}
-use Rattle.types.specs.declared.Mark.{Mark}
 use Rattle.types.specs.declared.Mark.the-variants.{Shutdown as ShutMark}
 use Rattle.types.specs.declared.Bench.{Bench}
 use Rattle.types.specs.declared.Party.{Party}
@@ -21,15 +20,14 @@ use Rattle.types.specs.declared.Stance.{Stance}
 use Rattle.types.specs.declared.Stance.the-variants.{Sleeping}
 use Rattle.types.specs.declared.Side.the-variants.{Sender, Recorder}
 use Rattle.types.specs.declared.Access.{Access}
-use Rattle.types.specs.declared.Access.the-variants.{None, LoadCounter, LoadFlags, LoadBell, WriteSlot, ReadSlot, StoreCounter, RaiseBell, SetFlag, WaitBell, WakeBell}
 use Rattle.layout.specs.Limits.{powerOk, slotOk}
-use Rattle.layout.specs.Flags.{worth, reservedFrom, bitOn, setBit, closeMark}
+use Rattle.layout.specs.Flags.{worth, reservedFrom, bitOn, closeMark}
 use Rattle.layout.specs.Header.{flagsAt, bellAt}
 use Rattle.layout.specs.Create.{created}
-use Rattle.layout.proofs.FlagLaws.{sameMark, mark-set}
 use Rattle.rules.specs.Sides.{other, rings, sleepBell}
 use Rattle.rules.specs.Take.{stanceOf}
 use Rattle.rules.specs.Next.{nextAt}
+use Rattle.rules.specs.Access.{bufferOf}
 use Rattle.rules.specs.Calls.{pushSpec, popSpec, closeSpec, shutSpec, spuriousSpec, timeoutSpec}
 use Rattle.rules.specs.Bench.{settled, played, playedLeaves}
 use Rattle.rules.specs.Run.{World, Happening, attaches, plays, partyIn, takes, happens, run, opened}
@@ -37,28 +35,22 @@ use Rattle.rules.specs.Premises.{Typed, AllTyped, AllFair}
 use Rattle.rules.specs.Stretch.{moves, calling, countsBy, tickBy, ticksBy, OwnDoing, AllOwn}
 use Rattle.rules.specs.Claims.{Fresh, reached, Stopped, AtRest, EndsTicks, Ends}
 use Rattle.rules.proofs.After.{flagsBy}
-use Rattle.rules.proofs.Leads.{stopAt, Leads}
+use Rattle.rules.proofs.Kept.{flag-up}
+use Rattle.rules.proofs.Leads.{stopAt, stop-barred}
 use Rattle.rules.proofs.Taken.{turnWorld, turn-refused}
 use Rattle.rules.proofs.RealTurn.{next-step, leads-here, after-turn, turn-is-after}
-use Rattle.rules.proofs.RealCalls.{Idle, rests as at-rest, looks, closes, shuts, Changed, seat-same, seat-one, seat-two, seated, push-changes, pop-changes, close-changes, shut-changes, spurious-changes, timeout-changes}
+use Rattle.rules.proofs.RealCalls.{Idle, rests as at-rest, looks, glances, closes, shuts, Changed, seat-same, seat-one, seat-two, seated, push-changes, pop-changes, close-changes, shut-changes, spurious-changes, timeout-changes}
 use Rattle.rules.proofs.RealRun.{power-fits, slot-fits, real-reached, real-happens}
 use Rattle.rules.proofs.Heard.{Cause, none, duty}
-use Rattle.rules.proofs.Costs.{less}
-use Rattle.rules.proofs.Nearer.{toRest, seven, rested, nearer}
-use Rattle.rules.proofs.Listening.{duty-kept, mover-is, waiter-is, flags-left}
+use Rattle.rules.proofs.Costs.{less, ownRoom}
+use Rattle.rules.proofs.Effects.{room-own-is}
+use Rattle.rules.proofs.Nearer.{toRest, room-le, seven, rested, nearer}
+use Rattle.rules.proofs.Listening.{duty-kept, mover-is, waiter-is, trace-is, flags-left}
 use Rattle.rules.proofs.Fairly.{Ready, ready-happens, quiet-duty, dozes}
 use Rattle.rules.proofs.Causes.{ready-reached}
 use Rattle.rules.proofs.Bound.{Count, by-moves, by-calling, Kind, rests, dreams, acts, kind, moves-off, dreams-on}
 use Rattle.rules.proofs.Asks.{run-parts, typed-parts, fair-parts}
 use Rattle.rules.proofs.Real.{roomIn, Real}
-
--- a flag that is up stays up
-mark-up : (n : Mark) (f : ℕ) → f < reservedFrom → (m : Mark) → bitOn (worth m) f ≡ true → bitOn (worth m) (setBit (worth n) f) ≡ true
-mark-up n f h m e = mark-set n f h m ∙ by (sameMark m n)
-  where
-    by : (b : Bool) → pick b true (bitOn (worth m) f) ≡ true
-    by true = refl
-    by false = e
 
 or-up : (a b c d : Bool) → (a ≡ true → c ≡ true) → (b ≡ true → d ≡ true) → (a || b) ≡ true → (c || d) ≡ true
 or-up true b c d f g e = rw (f refl) refl
@@ -67,43 +59,34 @@ or-up false true false d f g e = g refl
 or-up false false c d f g e = absurd (let z : _≡_ {A = ℕ} 0 1 = cc in omega arith)
 
 stop-up : (side : Side) (a : Access) (f : ℕ) → f < reservedFrom → stopAt side f ≡ true → stopAt side (flagsBy a f) ≡ true
-stop-up side None f h e = e
-stop-up side (LoadCounter s) f h e = e
-stop-up side LoadFlags f h e = e
-stop-up side (LoadBell b) f h e = e
-stop-up side (WriteSlot n) f h e = e
-stop-up side (ReadSlot n) f h e = e
-stop-up side (StoreCounter s n) f h e = e
-stop-up side (RaiseBell b) f h e = e
-stop-up side (SetFlag m) f h e =
-    or-up (bitOn (worth ShutMark) f) (bitOn (worth (closeMark (other side))) f) _ _ (mark-up m f h ShutMark) (mark-up m f h (closeMark (other side))) e
-stop-up side (WaitBell b n) f h e = e
-stop-up side (WakeBell b n) f h e = e
+stop-up side a f h =
+    or-up (bitOn (worth ShutMark) f) (bitOn (worth (closeMark (other side))) f) _ _ (flag-up a f h ShutMark) (flag-up a f h (closeMark (other side)))
 
 stop-cause : (k : ℕ) (z : Bool) → z ≡ true → Cause k z
 stop-cause zero z e = rw e tt
 stop-cause (suc k) z e = tt
 
 -- a turn before rest
-one-less : (s next : Step) → (s ≡ Rest → ⊥) → toRest next ≤ less (toRest s) → (n : ℕ) → toRest s ≤ n → (toRest next ≤ n - 1) × (1 ≤ n)
-one-less s next i h n l = by (toRest s) refl h l
+one-less : (s : Step) (k then : ℕ) → (s ≡ Rest → ⊥) → then ≤ less (toRest s k) → (n : ℕ) → toRest s k ≤ n → (then ≤ n - 1) × (1 ≤ n)
+one-less s k then i h n l = by (toRest s k) refl h l
   where
-    by : (m : ℕ) → toRest s ≡ m → toRest next ≤ less m → m ≤ n → (toRest next ≤ n - 1) × (1 ≤ n)
-    by zero e h l = absurd (i (rested s (omega arith)))
+    by : (m : ℕ) → toRest s k ≡ m → then ≤ less m → m ≤ n → (then ≤ n - 1) × (1 ≤ n)
+    by zero e h l = absurd (i (rested s k (omega arith)))
     by (suc m) e h l = (omega arith, omega arith)
 
-idle-rest : (s : Step) → Idle s → toRest s ≤ 6
-idle-rest s at-rest = omega arith
-idle-rest s looks = omega arith
-idle-rest s closes = omega arith
-idle-rest s shuts = omega arith
+idle-rest : (s : Step) (k : ℕ) → Idle s → toRest s k ≤ 6
+idle-rest s k at-rest = omega arith
+idle-rest s k looks = room-le k 3 6 6 (omega arith) (omega arith)
+idle-rest s k glances = room-le k 1 6 6 (omega arith) (omega arith)
+idle-rest s k closes = omega arith
+idle-rest s k shuts = omega arith
 
 module _ (P S v : ℕ) (on : Bool) where
   -- a stretch under way: the other owes nothing, a flag is up, so many turns are left at most
   pub record Ending (side : Side) (n : ℕ) (w : World) : Type 0 where
     pub quiet : duty (other side) (partyIn w (other side) .step) ≡ none
     pub up : stopAt side (leAt 4 (w .region) flagsAt) ≡ true
-    pub left : toRest (partyIn w side .step) ≤ n
+    pub left : toRest (partyIn w side .step) (roomIn P S v on side (w .trace)) ≤ n
 
   abbrev pub Then : Side → (n t : ℕ) → World → Type 0
   Then side n t w = Ending side (n - t) w × (t ≤ n)
@@ -122,7 +105,7 @@ module _ (P S v : ℕ) (on : Bool) where
       by (inr e) =
           let l : 6 ≤ n = rw e at (d .left) in
           then-same side n (seated P S v on w side q)
-          (record { quiet = rw (seat-two side (w .bench) q) (d .quiet); up = d .up; left = rw (seat-one side (w .bench) q) (omega (arith, idle-rest (q .step) (b .idle))) })
+          (record { quiet = rw (seat-two side (w .bench) q) (d .quiet); up = d .up; left = rw (seat-one side (w .bench) q) (omega (arith, idle-rest (q .step) (roomIn P S v on side (w .trace)) (b .idle))) })
 
   -- where a sleeper's turns count, one with a flag up does not sleep
   abbrev Rouses : (counted : Stance → Bool) → Side → World → Type 0
@@ -133,6 +116,9 @@ module _ (P S v : ℕ) (on : Bool) where
       abbrev s : Step
       s = partyIn w side .step
 
+      abbrev k : ℕ
+      k = roomIn P S v on side (w .trace)
+
       module _ (g : takes w side payload lent fault ≡ true) where
         abbrev next : Step
         next = next-step P S v on power-ok slot-ok w real side payload lent fault g
@@ -140,20 +126,23 @@ module _ (P S v : ℕ) (on : Bool) where
         abbrev after : World
         after = after-turn P S v on power-ok slot-ok w real side payload lent fault g
 
-        still-ending : (m : ℕ) → toRest next ≤ m → Ending side m after
+        still-ending : (m : ℕ) → toRest next (ownRoom s k) ≤ m → Ending side m after
         still-ending m l =
             let me = mover-is P S v on power-ok slot-ok w real side payload lent fault g in
             let them = waiter-is P S v on power-ok slot-ok w real side payload lent fault g in
+            let trail = trace-is P S v on power-ok slot-ok w real side payload lent fault g in
+            let p = partyIn w side in
+            let buffer = bufferOf (w .region) (p .own) (nextAt s side (p .counter)) (p .length) lent in
             record {
               quiet = ap (λ (q : Party). duty (other side) (q .step)) them ∙ duty-kept P S v on power-ok slot-ok w real side payload lent fault g ∙ d .quiet;
               up = ap (stopAt side) (flags-left P S v on power-ok slot-ok w real side payload lent fault g) ∙ stop-up side (nextAt s side (partyIn w side .counter)) (leAt 4 (w .region) flagsAt) (real .fixed .small) (d .up);
-              left = rw me l;
+              left = rw (me, trail, room-own-is p payload buffer (w .trace) P S v on (w .region) (real .queue) side s (real .sides side .room)) l;
             }
 
         moves-nearer : (s ≡ Asleep → ⊥) → Then side n 1 after
         moves-nearer j =
-            let leads = subst (λ (z : Bool). Leads (roomIn P S v on side (w .trace)) (roomIn P S v on (other side) (w .trace)) z (partyIn w side .blocking) (rings side on) (leAt 4 (w .region) (bellAt (sleepBell side))) s next) (d .up) (leads-here P S v on power-ok slot-ok w real side payload lent fault g) in
-            let fell = one-less s next i (nearer _ _ _ _ _ s next leads j) n (d .left) in
+            let leads = leads-here P S v on power-ok slot-ok w real side payload lent fault g in
+            let fell = one-less s k (toRest next (ownRoom s k)) i (nearer _ _ _ _ _ _ s next leads (stop-barred side (leAt 4 (w .region) flagsAt) ∙ d .up) j) n (d .left) in
             (still-ending (n - 1) (fell .0), fell .1)
 
         sleeps-on : s ≡ Asleep → Then side n 0 after
@@ -207,7 +196,7 @@ module _ (P S v : ℕ) (on : Bool) where
         (rouses : (hs : List Happening) (w : World) (n : ℕ) → Keeps hs w → Ending side n w → Rouses counted side w) where
       pub ending-run : (ms : List Happening) (w : World) → AllTyped ms → AllOwn side ms → Real P S v on w → Keeps ms w → (n : ℕ) → Ending side n w → n ≤ ticksBy counted ms w → Ended side ms n w
       unfolding run
-      ending-run [] w t m real y n d l = ([], ([], (refl, (omega arith, rested (partyIn w side .step) (omega (arith, d .left))))))
+      ending-run [] w t m real y n d l = ([], ([], (refl, (omega arith, rested (partyIn w side .step) (roomIn P S v on side (w .trace)) (omega (arith, d .left))))))
       ending-run (h ∷ ms) w t m real y n d l =
           by (partyIn w side .step) refl (kind (partyIn w side .step))
           (λ i.
@@ -230,7 +219,7 @@ module _ (r : List ℕ) (P S : ℕ) (on : Bool) (v : ℕ) (fresh : Fresh r P S o
   ends-by counted count side Keeps goes rouses hs ms t stop own y long =
       let w = reached r P S on v hs in
       let typed = typed-parts hs ms t in
-      let start : Ending P S v on side 7 w = record { quiet = quiet-duty (other side) (partyIn w (other side) .step) (stop .0); up = stop .1; left = seven (partyIn w side .step) } in
+      let start : Ending P S v on side 7 w = record { quiet = quiet-duty (other side) (partyIn w (other side) .step) (stop .0); up = stop .1; left = seven (partyIn w side .step) (roomIn P S v on side (w .trace)) } in
       let done = ending-run P S v on (power-fits r P S on v fresh) (slot-fits r P S on v fresh) counted count side Keeps goes rouses ms w (typed .1) own (real-reached r P S on v fresh hs (typed .0)) y 7 start long in
       (done .0, (done .1 .0, (done .1 .1 .0, (done .1 .1 .1 .0, subst (λ (u : World). partyIn u side .step ≡ Rest) (sym (run-parts hs (done .0) (opened (created r P S on v)))) (done .1 .1 .1 .1)))))
 

@@ -38,7 +38,7 @@ use Rattle.rules.proofs.Taken.{turnWorld, turn-refused}
 use Rattle.rules.proofs.RealTurn.{access-is, turn-is-after}
 use Rattle.rules.proofs.RealAttach.{bit-clear, attach-flags, attachWorld}
 use Rattle.rules.proofs.Woken.{heard-by}
-use Rattle.rules.proofs.RealCalls.{Idle, rests, looks, closes, shuts, Changed, seat-same, seat-one, seat-two, seated, push-changes, pop-changes, close-changes, shut-changes, spurious-changes, timeout-changes}
+use Rattle.rules.proofs.RealCalls.{Idle, rests, looks, glances, closes, shuts, Changed, seat-same, seat-one, seat-two, seated, push-changes, pop-changes, close-changes, shut-changes, spurious-changes, timeout-changes}
 use Rattle.rules.proofs.RealRun.{real-happens}
 use Rattle.rules.proofs.Heard.{Cause, Duty, none, duty, Good, wakesAt}
 use Rattle.rules.proofs.Own.{Tries}
@@ -49,12 +49,14 @@ use Rattle.rules.proofs.Real.{roomIn, Real}
 idle-good : (s : Step) (n k : ℕ) (z : Bool) (d : Duty) → Idle s → Good (phase s) n k z d
 idle-good s n k z d rests = tt
 idle-good s n k z d looks = tt
+idle-good s n k z d glances = tt
 idle-good s n k z d closes = tt
 idle-good s n k z d shuts = tt
 
 idle-duty : (side : Side) (s : Step) → Idle s → duty side s ≡ none
 idle-duty side s rests = refl
 idle-duty side s looks = refl
+idle-duty side s glances = refl
 idle-duty side s closes = refl
 idle-duty side s shuts = refl
 
@@ -65,6 +67,7 @@ quiet-duty side s (inr e) = ap (duty side) e
 idle-tries : (s : Step) (b : Bool) → Idle s → b ≡ false → Tries b (phase s)
 idle-tries s b rests e = rw e tt
 idle-tries s b looks e = rw e tt
+idle-tries s b glances e = rw e tt
 idle-tries s b closes e = rw e tt
 idle-tries s b shuts e = rw e tt
 

@@ -11,6 +11,7 @@ use Rattle.types.specs.declared.Side.{Side}
 use Rattle.types.specs.declared.Side.the-variants.{Sender, Recorder}
 use Rattle.types.specs.declared.Bell.the-variants.{NotEmpty, NotFull}
 use Rattle.types.specs.declared.Party.{Party}
+use Rattle.types.specs.declared.Door.{Door}
 use Rattle.types.specs.declared.Step.{Step}
 use Rattle.types.specs.declared.Step.the-variants.{Copy, Publish, Raise}
 use Rattle.types.specs.declared.Access.{Access}
@@ -20,9 +21,9 @@ use Rattle.rules.specs.Sides.{other}
 use Rattle.rules.specs.Next.{nextAt}
 use Rattle.rules.specs.Access.{leavesOf}
 use Rattle.rules.specs.Run.{Note, Trace, Carried, published, carried, traced}
-use Rattle.rules.specs.Phase.{Phase, resting, looking, copying, publishing, telling, asking, armed, poised, waits, sleeps as asleep, leaving, phase}
+use Rattle.rules.specs.Phase.{Phase, resting, looking, copying, publishing, telling, asking, armed, poised, waits, sleeps as asleep, glancing, leaving, phase}
 use Rattle.rules.proofs.Does.{Does, nothing, looks, flags, reads as epoch, writes, takes, stores as store, raises as ring, closes as close, shuts as shut, waits as wait, wakes as wake}
-use Rattle.rules.proofs.Leads.{Leads, idles, finds, blocks, gives-up, copies, spills, tells, stores, owes, passes, raises, wakes, enters, stops, reads, finds-again, stays, enters-again, stops-again, sleeps, returns, ends, dreams, closes, closes-alone, close-raises, close-wakes, shuts, shut-raises, shut-wakes, shut-raises-again, shut-wakes-again}
+use Rattle.rules.proofs.Leads.{Leads, idles, finds, blocks, gives-up, copies, spills, tells, stores, owes, passes, raises, wakes, enters, stops, reads, finds-again, stays, enters-again, stops-again, sleeps, returns, ends, dreams, glances, glances-again, times-out, finds-last, finds-none, closes, closes-alone, close-raises, close-wakes, shuts, shut-raises, shut-wakes, shut-raises-again, shut-wakes-again}
 use Rattle.rules.proofs.Kept.{length-more}
 use Rattle.rules.proofs.Ring.{holds-kept, written-elsewhere, queue-still, queue-quiet, queue-sent, queue-got}
 use Rattle.rules.proofs.Real.{countOf, HasRoom, sizes, roomIn, nth, blank, HoldsAt, InHand, Fixed, Queue, has-more, free}
@@ -39,6 +40,7 @@ module _ (P S v : ℕ) (on : Bool) where
   in-hand-none Sender (poised e) r t h = tt
   in-hand-none Sender (waits e) r t h = tt
   in-hand-none Sender asleep r t h = tt
+  in-hand-none Sender glancing r t h = tt
   in-hand-none Sender leaving r t h = tt
   in-hand-none Recorder resting r t h = tt
   in-hand-none Recorder looking r t h = tt
@@ -50,6 +52,7 @@ module _ (P S v : ℕ) (on : Bool) where
   in-hand-none Recorder (poised e) r t h = tt
   in-hand-none Recorder (waits e) r t h = tt
   in-hand-none Recorder asleep r t h = tt
+  in-hand-none Recorder glancing r t h = tt
   in-hand-none Recorder leaving r t h = tt
 
 module _ (P S v : ℕ) (on : Bool) (power-ok : powerOk P ≡ true) (slot-ok : slotOk S ≡ true) (r : List ℕ) (p : Party) (payload : List ℕ) (fixed : Fixed P S v on r)
@@ -120,7 +123,7 @@ module _ (P S v : ℕ) (on : Bool) (power-ok : powerOk P ≡ true) (slot-ok : sl
   copy-room Sender = refl
   copy-room Recorder = refl
 
-  pub room-own : (side : Side) (x : ℕ) (z m rg : Bool) (b : ℕ) (s next : Step) → Leads (roomIn P S v on side t) x z m rg b s next → HasRoom (phase s) (roomIn P S v on side t)
+  pub room-own : (side : Side) (x : ℕ) (z : Door) (m rg : Bool) (b : ℕ) (s next : Step) → Leads (roomIn P S v on side t) x z m rg b s next → HasRoom (phase s) (roomIn P S v on side t)
       → HasRoom (phase next) (roomIn P S v on side (told (nextAt s side (p .counter))))
   room-own side x z m rg b s next idles y = tt
   room-own side x z m rg b s next (finds h) y = h
@@ -145,6 +148,11 @@ module _ (P S v : ℕ) (on : Bool) (power-ok : powerOk P ≡ true) (slot-ok : sl
   room-own side x z m rg b s next returns y = tt
   room-own side x z m rg b s next ends y = tt
   room-own side x z m rg b s next dreams y = tt
+  room-own side x z m rg b s next (glances h) y = tt
+  room-own side x z m rg b s next (glances-again h) y = tt
+  room-own side x z m rg b s next times-out y = tt
+  room-own side x z m rg b s next (finds-last h) y = h
+  room-own side x z m rg b s next (finds-none h) y = tt
   room-own side x z m rg b s next (closes h) y = tt
   room-own side x z m rg b s next (closes-alone h) y = tt
   room-own side x z m rg b s next close-raises y = tt
@@ -169,7 +177,7 @@ module _ (P S v : ℕ) (on : Bool) (power-ok : powerOk P ≡ true) (slot-ok : sl
   rung-hand Sender l g r′ y = tt
   rung-hand Recorder l g r′ y = y
 
-  pub hand-own : (side : Side) (k x : ℕ) (z m rg : Bool) (b : ℕ) (s next : Step) → p .step ≡ s → (s ≡ Copy → ⊥) → Leads k x z m rg b s next → InHand P S v on side (phase s) r t
+  pub hand-own : (side : Side) (k x : ℕ) (z : Door) (m rg : Bool) (b : ℕ) (s next : Step) → p .step ≡ s → (s ≡ Copy → ⊥) → Leads k x z m rg b s next → InHand P S v on side (phase s) r t
       → InHand P S v on side (phase next) (left (nextAt s side (p .counter))) (told (nextAt s side (p .counter)))
   hand-own side k x z m rg b s next at u idles y = in-hand-none P S v on side (phase next) (left (nextAt s side (p .counter))) (told (nextAt s side (p .counter))) tt
   hand-own side k x z m rg b s next at u (finds h) y = in-hand-none P S v on side (phase next) (left (nextAt s side (p .counter))) (told (nextAt s side (p .counter))) tt
@@ -194,6 +202,11 @@ module _ (P S v : ℕ) (on : Bool) (power-ok : powerOk P ≡ true) (slot-ok : sl
   hand-own side k x z m rg b s next at u returns y = in-hand-none P S v on side (phase next) (left (nextAt s side (p .counter))) (told (nextAt s side (p .counter))) tt
   hand-own side k x z m rg b s next at u ends y = in-hand-none P S v on side (phase next) (left (nextAt s side (p .counter))) (told (nextAt s side (p .counter))) tt
   hand-own side k x z m rg b s next at u dreams y = in-hand-none P S v on side (phase next) (left (nextAt s side (p .counter))) (told (nextAt s side (p .counter))) tt
+  hand-own side k x z m rg b s next at u (glances h) y = in-hand-none P S v on side (phase next) (left (nextAt s side (p .counter))) (told (nextAt s side (p .counter))) tt
+  hand-own side k x z m rg b s next at u (glances-again h) y = in-hand-none P S v on side (phase next) (left (nextAt s side (p .counter))) (told (nextAt s side (p .counter))) tt
+  hand-own side k x z m rg b s next at u times-out y = in-hand-none P S v on side (phase next) (left (nextAt s side (p .counter))) (told (nextAt s side (p .counter))) tt
+  hand-own side k x z m rg b s next at u (finds-last h) y = in-hand-none P S v on side (phase next) (left (nextAt s side (p .counter))) (told (nextAt s side (p .counter))) tt
+  hand-own side k x z m rg b s next at u (finds-none h) y = in-hand-none P S v on side (phase next) (left (nextAt s side (p .counter))) (told (nextAt s side (p .counter))) tt
   hand-own side k x z m rg b s next at u (closes h) y = in-hand-none P S v on side (phase next) (left (nextAt s side (p .counter))) (told (nextAt s side (p .counter))) tt
   hand-own side k x z m rg b s next at u (closes-alone h) y = in-hand-none P S v on side (phase next) (left (nextAt s side (p .counter))) (told (nextAt s side (p .counter))) tt
   hand-own side k x z m rg b s next at u close-raises y = in-hand-none P S v on side (phase next) (left (nextAt s side (p .counter))) (told (nextAt s side (p .counter))) tt
@@ -257,6 +270,7 @@ module _ (P S v : ℕ) (on : Bool) (power-ok : powerOk P ≡ true) (slot-ok : sl
   recorder-hand u k (poised e) h y r′ = tt
   recorder-hand u k (waits e) h y r′ = tt
   recorder-hand u k asleep h y r′ = tt
+  recorder-hand u k glancing h y r′ = tt
   recorder-hand u k leaving h y r′ = tt
 
   sender-hand : (a : Access) → RecorderKeeps a → (ph : Phase) → InHand P S v on Sender ph r t → InHand P S v on Sender ph (left a) (told a)
@@ -270,6 +284,7 @@ module _ (P S v : ℕ) (on : Bool) (power-ok : powerOk P ≡ true) (slot-ok : sl
   sender-hand a k (poised e) y = tt
   sender-hand a k (waits e) y = tt
   sender-hand a k asleep y = tt
+  sender-hand a k glancing y = tt
   sender-hand a k leaving y = tt
 
   -- what the other has in hand

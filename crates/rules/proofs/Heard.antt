@@ -5,10 +5,11 @@ use Prim.Native.Nat.{ℕ, zero, suc, _+_}
 use native.Mathlib.Omega.{arith}
 use Rattle.types.specs.declared.Side.{Side}
 use Rattle.types.specs.declared.Side.the-variants.{Sender, Recorder}
+use Rattle.types.specs.declared.Door.{Door}
 use Rattle.types.specs.declared.Step.{Step}
-use Rattle.types.specs.declared.Step.the-variants.{Rest, Look, Copy, Publish, Check, Raise, Wake, Gate, Epoch, Again, GateAgain, Wait, Asleep, CloseSet, CloseRaise, CloseWake, ShutSet, ShutRaiseNe, ShutWakeNe, ShutRaiseNf, ShutWakeNf}
-use Rattle.rules.specs.Phase.{Phase, resting, looking, copying, publishing, telling, asking, armed, poised, waits, sleeps, leaving}
-use Rattle.rules.proofs.Leads.{Leads, idles, finds, blocks, gives-up, copies, spills, tells, stores, owes, passes, raises, wakes, enters, stops, reads, finds-again, stays, enters-again, stops-again, returns, ends, dreams, closes, closes-alone, close-raises, close-wakes, shuts, shut-raises, shut-wakes, shut-raises-again, shut-wakes-again, sleeps as falls-asleep}
+use Rattle.types.specs.declared.Step.the-variants.{Rest, Look, Copy, Publish, Check, Raise, Wake, Gate, Epoch, Again, GateAgain, Wait, Asleep, LastLook, CloseSet, CloseRaise, CloseWake, ShutSet, ShutRaiseNe, ShutWakeNe, ShutRaiseNf, ShutWakeNf}
+use Rattle.rules.specs.Phase.{Phase, resting, looking, copying, publishing, telling, asking, armed, poised, waits, sleeps, glancing, leaving}
+use Rattle.rules.proofs.Leads.{Leads, idles, finds, blocks, gives-up, copies, spills, tells, stores, owes, passes, raises, wakes, enters, stops, reads, finds-again, stays, enters-again, stops-again, returns, ends, dreams, glances, glances-again, times-out, finds-last, finds-none, closes, closes-alone, close-raises, close-wakes, shuts, shut-raises, shut-wakes, shut-raises-again, shut-wakes-again, sleeps as falls-asleep}
 
 -- a party with room, or that should stop, has cause not to sleep
 abbrev pub Cause : (room : ℕ) → (stop : Bool) → Type 0
@@ -39,6 +40,7 @@ duty side (Again e) = none
 duty side (GateAgain e) = none
 duty side (Wait e) = none
 duty side Asleep = none
+duty side (LastLook c) = none
 duty side CloseSet = none
 duty side CloseRaise = raising
 duty side CloseWake = waking
@@ -71,6 +73,7 @@ Good (armed e) n k z d = Unit
 Good (poised e) n k z d = n ≡ 0 → Owed false k false d
 Good (waits e) n k z d = n ≡ 0 → Owed false k z d
 Good sleeps n k z d = Owed true k z d
+Good glancing n k z d = Unit
 Good leaving n k z d = Unit
 
 -- how it goes on when the other moves
@@ -86,6 +89,7 @@ carry (armed e) n k k′ z z′ d d′ f g h x = tt
 carry (poised e) n k k′ z z′ d d′ f g h x = λ q. f (x q)
 carry (waits e) n k k′ z z′ d d′ f g h x = λ q. g (x q)
 carry sleeps n k k′ z z′ d d′ f g h x = h refl x
+carry glancing n k k′ z z′ d d′ f g h x = tt
 carry leaving n k k′ z z′ d d′ f g h x = tt
 
 module _ (ph : Phase) (n k : ℕ) (z : Bool) where
@@ -128,6 +132,7 @@ belled (armed e) n k z x = tt
 belled (poised e) n k z x = λ q. absurd (omega arith)
 belled (waits e) n k z x = λ q. absurd (omega arith)
 belled sleeps n k z x = λ c. tt
+belled glancing n k z x = tt
 belled leaving n k z x = tt
 
 -- a wake that lands ends a sleep
@@ -143,6 +148,7 @@ risen true (armed e) = (armed e)
 risen true (poised e) = (poised e)
 risen true (waits e) = (waits e)
 risen true sleeps = looking
+risen true glancing = glancing
 risen true leaving = leaving
 
 landed-good : (landed : Bool) (ph : Phase) (n k : ℕ) (z : Bool) → (ph ≡ sleeps → landed ≡ true) → Good ph n k z waking → Good (risen landed ph) n k z none
@@ -157,6 +163,7 @@ landed-good true (armed e) n k z h x = tt
 landed-good true (poised e) n k z h x = λ q c. x q c
 landed-good true (waits e) n k z h x = λ q c. x q c
 landed-good true sleeps n k z h x = tt
+landed-good true glancing n k z h x = tt
 landed-good true leaving n k z h x = tt
 
 -- what a turn of the mover at a step does to the other: raises of its bell, its room, and a wake for it
@@ -174,6 +181,7 @@ rungBy side (Again e) n = n
 rungBy side (GateAgain e) n = n
 rungBy side (Wait e) n = n
 rungBy side Asleep n = n
+rungBy side (LastLook c) n = n
 rungBy side CloseSet n = n
 rungBy side CloseRaise n = n + 1
 rungBy side CloseWake n = n
@@ -197,6 +205,7 @@ roomBy (Again e) k = k
 roomBy (GateAgain e) k = k
 roomBy (Wait e) k = k
 roomBy Asleep k = k
+roomBy (LastLook c) k = k
 roomBy CloseSet k = k
 roomBy CloseRaise k = k
 roomBy CloseWake k = k
@@ -220,6 +229,7 @@ wakesAt side (Again e) = false
 wakesAt side (GateAgain e) = false
 wakesAt side (Wait e) = false
 wakesAt side Asleep = false
+wakesAt side (LastLook c) = false
 wakesAt side CloseSet = false
 wakesAt side CloseRaise = false
 wakesAt side CloseWake = true
@@ -244,6 +254,7 @@ setsNone (Again e) = true
 setsNone (GateAgain e) = true
 setsNone (Wait e) = true
 setsNone Asleep = true
+setsNone (LastLook c) = true
 setsNone CloseSet = false
 setsNone CloseRaise = true
 setsNone CloseWake = true
@@ -255,7 +266,7 @@ setsNone (ShutWakeNf c f) = true
 
 -- a turn of the other's keeps what the waiter relies on. x is the waiter's room as the mover checks it, ok whether no failure
 -- was announced
-pub theirs : (side : Side) (k′ x : ℕ) (zz m r : Bool) (b : ℕ) (s next : Step) → Leads k′ x zz m r b s next → r ≡ true → (ok : Bool) (ph : Phase) (n : ℕ) (z z′ : Bool)
+pub theirs : (side : Side) (k′ x : ℕ) (zz : Door) (m r : Bool) (b : ℕ) (s next : Step) → Leads k′ x zz m r b s next → r ≡ true → (ok : Bool) (ph : Phase) (n : ℕ) (z z′ : Bool)
     → (setsNone s ≡ true → z′ ≡ z) → (wakesAt side s ≡ true → ph ≡ sleeps → ok ≡ true)
     → Good ph n x z (duty side s) → Good (risen (wakesAt side s && ok) ph) (rungBy side s n) (roomBy s x) z′ (duty side next)
 theirs side k′ x zz m r b s next idles t ok ph n z z′ f l y = rw (f refl) y
@@ -281,6 +292,11 @@ theirs side k′ x zz m r b s next (falls-asleep h) t ok ph n z z′ f l y = rw 
 theirs side k′ x zz m r b s next returns t ok ph n z z′ f l y = rw (f refl) (calm ph n x z _ y)
 theirs side k′ x zz m r b s next ends t ok ph n z z′ f l y = rw (f refl) (calm ph n x z _ y)
 theirs side k′ x zz m r b s next dreams t ok ph n z z′ f l y = rw (f refl) y
+theirs side k′ x zz m r b s next (glances h) t ok ph n z z′ f l y = rw (f refl) (calm ph n x z _ y)
+theirs side k′ x zz m r b s next (glances-again h) t ok ph n z z′ f l y = rw (f refl) (calm ph n x z _ y)
+theirs side k′ x zz m r b s next times-out t ok ph n z z′ f l y = rw (f refl) (calm ph n x z _ y)
+theirs side k′ x zz m r b s next (finds-last h) t ok ph n z z′ f l y = rw (f refl) (calm ph n x z _ y)
+theirs side k′ x zz m r b s next (finds-none h) t ok ph n z z′ f l y = rw (f refl) (calm ph n x z _ y)
 theirs side k′ x zz m r b s next (closes h) t ok ph n z z′ f l y = flagged ph n x z z′ _ y
 theirs side k′ x zz m r b s next (closes-alone h) t ok ph n z z′ f l y = absurd (let u : _≡_ {A = ℕ} 0 1 = cc in omega arith)
 theirs side k′ x zz m r b s next close-raises t ok ph n z z′ f l y = rw (f refl) (belled ph n x z y)

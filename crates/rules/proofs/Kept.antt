@@ -1,6 +1,6 @@
 -- A turn keeps what is fixed, the words, the seats and the epochs: both of the party that moves and of the other.
 use mathlib.Core.Path.{_≡_, refl, sym, ap, _∙_}
-use mathlib.Core.Bool.{Bool}
+use mathlib.Core.Bool.{Bool, true, false}
 use mathlib.Core.List.{List, [], _∷_, _++_}
 use Prim.Native.Nat.{ℕ, _+_, _-_, _<_, _≤_}
 use native.Mathlib.Omega.{arith}
@@ -8,18 +8,20 @@ use lib.ListN.{length, length-append}
 use Rattle.words.specs.Le.{leAt}
 use Rattle.words.specs.Wrap.{plus}
 use Rattle.words.proofs.Wrapped.{plus-lt, plus-plus}
+use Rattle.types.specs.Pick.{pick}
 use Rattle.types.specs.declared.Side.{Side}
 use Rattle.types.specs.declared.Side.the-variants.{Sender, Recorder}
 use Rattle.types.specs.declared.Bell.the-variants.{NotEmpty, NotFull}
+use Rattle.types.specs.declared.Mark.{Mark}
 use Rattle.types.specs.declared.Mark.the-variants.{SenderClosed, RecorderClosed, Shutdown}
 use Rattle.types.specs.declared.Party.{Party}
 use Rattle.types.specs.declared.Step.{Step}
 use Rattle.types.specs.declared.Access.{Access}
 use Rattle.types.specs.declared.Access.the-variants.{None, LoadCounter, LoadFlags, LoadBell, WriteSlot, ReadSlot, StoreCounter, RaiseBell, SetFlag, WaitBell, WakeBell}
 use Rattle.layout.specs.Limits.{headerBytes, totalBytes}
-use Rattle.layout.specs.Flags.{worth, notFullOn, reservedFrom, bitOn, attachMark, closeMark}
+use Rattle.layout.specs.Flags.{worth, notFullOn, reservedFrom, bitOn, setBit, attachMark, closeMark}
 use Rattle.layout.specs.Header.{flagsAt, counterAt}
-use Rattle.layout.proofs.FlagLaws.{mark-set, option-kept, flags-small}
+use Rattle.layout.proofs.FlagLaws.{sameMark, mark-set, option-kept, flags-small}
 use Rattle.rules.specs.Sides.{other}
 use Rattle.rules.specs.Take.{stanceOf, counterAfter, closedAfter}
 use Rattle.rules.specs.Access.{leavesOf}
@@ -55,6 +57,27 @@ flagsBy-option (RaiseBell b) f h = refl
 flagsBy-option (SetFlag m) f h = option-kept m f h
 flagsBy-option (WaitBell b e) f h = refl
 flagsBy-option (WakeBell b n) f h = refl
+
+-- a flag that is up stays up
+mark-up : (n : Mark) (f : ℕ) → f < reservedFrom → (m : Mark) → bitOn (worth m) f ≡ true → bitOn (worth m) (setBit (worth n) f) ≡ true
+mark-up n f h m e = mark-set n f h m ∙ by (sameMark m n)
+  where
+    by : (b : Bool) → pick b true (bitOn (worth m) f) ≡ true
+    by true = refl
+    by false = e
+
+pub flag-up : (a : Access) (f : ℕ) → f < reservedFrom → (m : Mark) → bitOn (worth m) f ≡ true → bitOn (worth m) (flagsBy a f) ≡ true
+flag-up None f h m e = e
+flag-up (LoadCounter s) f h m e = e
+flag-up LoadFlags f h m e = e
+flag-up (LoadBell b) f h m e = e
+flag-up (WriteSlot n) f h m e = e
+flag-up (ReadSlot n) f h m e = e
+flag-up (StoreCounter s n) f h m e = e
+flag-up (RaiseBell b) f h m e = e
+flag-up (SetFlag n) f h m e = mark-up n f h m e
+flag-up (WaitBell b n) f h m e = e
+flag-up (WakeBell b n) f h m e = e
 
 -- the attach bits never change in a turn; a close bit changes for the one that closes
 pub attach-bit : (side mover : Side) (n : ℕ) (s : Step) (a : Access) (f : ℕ) → f < reservedFrom → Does mover n s a → bitOn (worth (attachMark side)) (flagsBy a f) ≡ bitOn (worth (attachMark side)) f

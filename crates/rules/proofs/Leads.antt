@@ -1,6 +1,6 @@
--- Where a turn may lead, with what it then knows: one row a way. k is the own room, x the other's, z whether it should stop,
+-- Where a turn may lead, with what it then knows: one row a way. k is the own room, x the other's, z what the flags say to it,
 -- m whether it blocks, r whether it rings, b its bell.
-use mathlib.Core.Path.{_≡_, refl, sym, _∙_}
+use mathlib.Core.Path.{_≡_, refl, sym, ap, _∙_}
 use mathlib.Core.Bool.{Bool, true, false, _||_}
 use Prim.Native.Nat.{ℕ, zero, suc, _%_, _^_, _<_}
 use native.Mathlib.Omega.{arith}
@@ -18,15 +18,15 @@ use Rattle.types.specs.declared.Fit.the-variants.{Bad, Small, Fits}
 use Rattle.types.specs.declared.Nap.{Nap}
 use Rattle.types.specs.declared.Nap.the-variants.{Sleeps, Returns, TimedOut, Fails}
 use Rattle.types.specs.declared.Step.{Step}
-use Rattle.types.specs.declared.Step.the-variants.{Rest, Look, Copy, Publish, Check, Raise, Wake, Gate, Epoch, Again, GateAgain, Wait, Asleep, CloseSet, CloseRaise, CloseWake, ShutSet, ShutRaiseNe, ShutWakeNe, ShutRaiseNf, ShutWakeNf}
-use Rattle.types.specs.declared.Answer.the-variants.{Done}
+use Rattle.types.specs.declared.Step.the-variants.{Rest, Look, Copy, Publish, Check, Raise, Wake, Gate, Epoch, Again, GateAgain, Wait, Asleep, LastLook, CloseSet, CloseRaise, CloseWake, ShutSet, ShutRaiseNe, ShutWakeNe, ShutRaiseNf, ShutWakeNf}
+use Rattle.types.specs.declared.Answer.the-variants.{Done, Closed, Timeout}
 use Rattle.types.specs.declared.Move.the-variants.{To, End}
 use Rattle.layout.specs.Limits.{capacity, payloadCapacity}
 use Rattle.layout.specs.Flags.{worth, bitOn, closeMark}
 use Rattle.layout.specs.Slots.{headOf}
 use Rattle.rules.specs.Sides.{other, rings, sleepBell, waitOp}
 use Rattle.rules.specs.Looks.{roomOf, wasBlocked, doorOf, fitOf, napOf}
-use Rattle.rules.specs.Steps.{roomMove, blockedMove, lookMove, fitMove, copyWith, copyMove, publishMove, checkMove, wakeMove, doorMove, gateMove, againMove, napMove, waitMove, closeMove, shutMove}
+use Rattle.rules.specs.Steps.{roomMove, blockedMove, lookMove, fitMove, copyWith, copyMove, publishMove, checkMove, wakeMove, doorMove, gateMove, againMove, napMove, waitMove, lastMove, closeMove, shutMove}
 use Rattle.rules.specs.Take.{moveAt, stepAfter}
 use Rattle.rules.proofs.Rooms.{asRoom}
 
@@ -34,7 +34,27 @@ use Rattle.rules.proofs.Rooms.{asRoom}
 abbrev pub stopAt : Side → (flags : ℕ) → Bool
 stopAt side flags = bitOn (worth Shutdown) flags || bitOn (worth (closeMark (other side))) flags
 
-pub data Leads (k x : ℕ) (z m r : Bool) (b : ℕ) : Step → Step → Type 0 where
+abbrev pub barred : Door → Bool
+barred Shut = true
+barred Left = true
+barred Open = false
+
+-- it should where its door is not open
+pub stop-barred : (side : Side) (flags : ℕ) → barred (doorOf side flags) ≡ stopAt side flags
+unfolding doorOf
+stop-barred side flags = by (bitOn (worth Shutdown) flags) (bitOn (worth (closeMark (other side))) flags)
+  where
+    by : (a c : Bool) → barred (pick a Shut (pick c Left Open)) ≡ (a || c)
+    by true c = refl
+    by false true = refl
+    by false false = refl
+
+pub open-door : (d : Door) → barred d ≡ false → d ≡ Open
+open-door Shut e = absurd (let z : _≡_ {A = ℕ} 0 1 = cc in omega arith)
+open-door Left e = absurd (let z : _≡_ {A = ℕ} 0 1 = cc in omega arith)
+open-door Open e = refl
+
+pub data Leads (k x : ℕ) (z : Door) (m r : Bool) (b : ℕ) : Step → Step → Type 0 where
   idles : Leads k x z m r b Rest Rest
   finds : 0 < k → Leads k x z m r b Look Copy
   blocks : k ≡ 0 → m ≡ true → Leads k x z m r b Look Gate
@@ -47,17 +67,22 @@ pub data Leads (k x : ℕ) (z m r : Bool) (b : ℕ) : Step → Step → Type 0 w
   passes : {l t : ℕ} → (x ≡ 1 → ⊥) → Leads k x z m r b (Check l t) Rest
   raises : {l t : ℕ} → Leads k x z m r b (Raise l t) (Wake l t)
   wakes : {l t : ℕ} → Leads k x z m r b (Wake l t) Rest
-  enters : z ≡ false → Leads k x z m r b Gate Epoch
-  stops : z ≡ true → Leads k x z m r b Gate Rest
+  enters : z ≡ Open → Leads k x z m r b Gate Epoch
+  stops : barred z ≡ true → Leads k x z m r b Gate Rest
   reads : Leads k x z m r b Epoch (Again (b % 2 ^ 32))
   finds-again : {e : ℕ} → 0 < k → Leads k x z m r b (Again e) Copy
   stays : {e : ℕ} → k ≡ 0 → Leads k x z m r b (Again e) (GateAgain e)
-  enters-again : {e : ℕ} → z ≡ false → Leads k x z m r b (GateAgain e) (Wait e)
-  stops-again : {e : ℕ} → z ≡ true → Leads k x z m r b (GateAgain e) Rest
+  enters-again : {e : ℕ} → z ≡ Open → Leads k x z m r b (GateAgain e) (Wait e)
+  stops-again : {e : ℕ} → barred z ≡ true → Leads k x z m r b (GateAgain e) Rest
   sleeps : {e : ℕ} → b ≡ e → Leads k x z m r b (Wait e) Asleep
   returns : {e : ℕ} → Leads k x z m r b (Wait e) Look
   ends : {e : ℕ} → Leads k x z m r b (Wait e) Rest
   dreams : Leads k x z m r b Asleep Asleep
+  glances : z ≡ Left → Leads k x z m r b Gate (LastLook false)
+  glances-again : {e : ℕ} → z ≡ Left → Leads k x z m r b (GateAgain e) (LastLook false)
+  times-out : {e : ℕ} → Leads k x z m r b (Wait e) (LastLook true)
+  finds-last : {c : Bool} → 0 < k → Leads k x z m r b (LastLook c) Copy
+  finds-none : {c : Bool} → k ≡ 0 → Leads k x z m r b (LastLook c) Rest
   closes : r ≡ true → Leads k x z m r b CloseSet CloseRaise
   closes-alone : r ≡ false → Leads k x z m r b CloseSet Rest
   close-raises : Leads k x z m r b CloseRaise CloseWake
@@ -68,7 +93,7 @@ pub data Leads (k x : ℕ) (z m r : Bool) (b : ℕ) : Step → Step → Type 0 w
   shut-raises-again : {c : Bool} {f : ℕ} → Leads k x z m r b (ShutRaiseNf c f) (ShutWakeNf c f)
   shut-wakes-again : {c : Bool} {f : ℕ} → Leads k x z m r b (ShutWakeNf c f) Rest
 
-module _ (k x : ℕ) (z m r : Bool) (b : ℕ) where
+module _ (k x : ℕ) (z : Door) (m r : Bool) (b : ℕ) where
   abbrev L : Step → Step → Type 0
   L s t = Leads k x z m r b s t
 
@@ -95,32 +120,27 @@ module _ (k x : ℕ) (z m r : Bool) (b : ℕ) where
   check-leads l t true h = owes (eqb-true x 1 h)
   check-leads l t false h = passes (eqb-false x 1 h)
 
-  -- the door is open where it should not stop
-  abbrev Stands : Door → Type 0
-  Stands Shut = z ≡ true
-  Stands Left = z ≡ true
-  Stands Open = z ≡ false
+  gate-leads : (side : Side) (d : Door) → z ≡ d → L Gate (stepAfter (doorMove d side Epoch) Gate)
+  gate-leads side Shut h = stops (ap barred h)
+  gate-leads Sender Left h = stops (ap barred h)
+  gate-leads Recorder Left h = glances h
+  gate-leads side Open h = enters h
 
-  door-stop : (a c : Bool) → (a || c) ≡ z → (d : Door) → pick a Shut (pick c Left Open) ≡ d → Stands d
-  door-stop true c h d e = rw (← e) (sym h)
-  door-stop false true h d e = rw (← e) (sym h)
-  door-stop false false h d e = rw (← e) (sym h)
-
-  gate-leads : (d : Door) → Stands d → L Gate (stepAfter (doorMove d Epoch) Gate)
-  gate-leads Shut h = stops h
-  gate-leads Left h = stops h
-  gate-leads Open h = enters h
-
-  gate-again-leads : (e : ℕ) (d : Door) → Stands d → L (GateAgain e) (stepAfter (doorMove d (Wait e)) (GateAgain e))
-  gate-again-leads e Shut h = stops-again h
-  gate-again-leads e Left h = stops-again h
-  gate-again-leads e Open h = enters-again h
+  gate-again-leads : (side : Side) (e : ℕ) (d : Door) → z ≡ d → L (GateAgain e) (stepAfter (doorMove d side (Wait e)) (GateAgain e))
+  gate-again-leads side e Shut h = stops-again (ap barred h)
+  gate-again-leads Sender e Left h = stops-again (ap barred h)
+  gate-again-leads Recorder e Left h = glances-again h
+  gate-again-leads side e Open h = enters-again h
 
   wait-leads : (e op f : ℕ) (n : Nap) → (n ≡ Sleeps → b ≡ e) → L (Wait e) (stepAfter (napMove n op f) (Wait e))
   wait-leads e op f Sleeps h = sleeps (h refl)
   wait-leads e op f Returns h = returns
-  wait-leads e op f TimedOut h = ends
+  wait-leads e op f TimedOut h = times-out
   wait-leads e op f Fails h = ends
+
+  last-leads : (c : Bool) (j : ℕ) → k ≡ j → L (LastLook c) (stepAfter (roomMove (asRoom j) (End (pick c Timeout Closed))) (LastLook c))
+  last-leads c (suc j) q = finds-last (omega arith)
+  last-leads c zero q = finds-none q
 
   close-leads : (n : Bool) → r ≡ n → L CloseSet (stepAfter (pick n (To CloseRaise) (End (Done 0 0))) CloseSet)
   close-leads true h = closes h
@@ -139,7 +159,7 @@ nap-sleeps f s e = by (eqb f 0) s (eqb f 4 || eqb f 11) (eqb f 110) e
     by false s false false e = absurd (let q : _≡_ {A = ℕ} 0 1 = cc in omega arith)
 
 -- what a turn's value has to say, by the step
-abbrev pub Tells : (own : Own) → (k x : ℕ) (z : Bool) (b : ℕ) → (counter value : ℕ) → Step → Type 0
+abbrev pub Tells : (own : Own) → (k x : ℕ) (z : Door) (b : ℕ) → (counter value : ℕ) → Step → Type 0
 Tells own k x z b c v Rest = Unit
 Tells own k x z b c v Look = roomOf (own .side) (capacity (own .power)) c v ≡ asRoom k
 Tells own k x z b c v Copy = Unit
@@ -147,12 +167,13 @@ Tells own k x z b c v (Publish l t) = Unit
 Tells own k x z b c v (Check l t) = wasBlocked (own .side) (capacity (own .power)) c v ≡ eqb x 1
 Tells own k x z b c v (Raise l t) = Unit
 Tells own k x z b c v (Wake l t) = Unit
-Tells own k x z b c v Gate = stopAt (own .side) v ≡ z
+Tells own k x z b c v Gate = doorOf (own .side) v ≡ z
 Tells own k x z b c v Epoch = v ≡ b
 Tells own k x z b c v (Again e) = roomOf (own .side) (capacity (own .power)) c v ≡ asRoom k
-Tells own k x z b c v (GateAgain e) = stopAt (own .side) v ≡ z
+Tells own k x z b c v (GateAgain e) = doorOf (own .side) v ≡ z
 Tells own k x z b c v (Wait e) = v ≡ b
 Tells own k x z b c v Asleep = Unit
+Tells own k x z b c v (LastLook q) = roomOf (own .side) (capacity (own .power)) c v ≡ asRoom k
 Tells own k x z b c v CloseSet = Unit
 Tells own k x z b c v CloseRaise = Unit
 Tells own k x z b c v CloseWake = Unit
@@ -162,9 +183,9 @@ Tells own k x z b c v (ShutWakeNe q) = Unit
 Tells own k x z b c v (ShutRaiseNf q f) = Unit
 Tells own k x z b c v (ShutWakeNf q f) = Unit
 
-pub leads : (own : Own) (k x : ℕ) (z : Bool) (b c : ℕ) (m : Bool) (l v f : ℕ) (s : Step) → Tells own k x z b c v s
+pub leads : (own : Own) (k x : ℕ) (z : Door) (b c : ℕ) (m : Bool) (l v f : ℕ) (s : Step) → Tells own k x z b c v s
     → Leads k x z m (rings (own .side) (own .notfull)) b s (stepAfter (moveAt s own c m l v f) s)
-unfolding lookMove copyMove publishMove checkMove wakeMove gateMove againMove waitMove closeMove shutMove doorOf
+unfolding lookMove copyMove publishMove checkMove wakeMove gateMove againMove waitMove lastMove closeMove shutMove
 leads own k x z b c m l v f Rest h = idles
 leads own k x z b c m l v f Look h = rw h (look-leads k x z m (rings (own .side) (own .notfull)) b (own .side) k refl m refl)
 leads own k x z b c m l v f Copy h = copy-leads k x z m (rings (own .side) (own .notfull)) b (own .side) (fitOf (headOf v) (payloadCapacity (own .slot)) l) (headOf v .length) (headOf v .tag)
@@ -172,17 +193,14 @@ leads own k x z b c m l v f (Publish n t) h = publish-leads k x z m (rings (own 
 leads own k x z b c m l v f (Check n t) h = rw h (check-leads k x z m (rings (own .side) (own .notfull)) b n t (eqb x 1) refl)
 leads own k x z b c m l v f (Raise n t) h = raises
 leads own k x z b c m l v f (Wake n t) h = wakes
-leads own k x z b c m l v f Gate h =
-    let d : Door = pick (bitOn (worth Shutdown) v) Shut (pick (bitOn (worth (closeMark (other (own .side)))) v) Left Open) in
-    gate-leads k x z m (rings (own .side) (own .notfull)) b d (door-stop k x z m (rings (own .side) (own .notfull)) b (bitOn (worth Shutdown) v) (bitOn (worth (closeMark (other (own .side)))) v) h d refl)
+leads own k x z b c m l v f Gate h = rw h (gate-leads k x z m (rings (own .side) (own .notfull)) b (own .side) z refl)
 leads own k x z b c m l v f Epoch h = rw h reads
 leads own k x z b c m l v f (Again e) h = rw h (again-leads k x z m (rings (own .side) (own .notfull)) b e k refl)
-leads own k x z b c m l v f (GateAgain e) h =
-    let d : Door = pick (bitOn (worth Shutdown) v) Shut (pick (bitOn (worth (closeMark (other (own .side)))) v) Left Open) in
-    gate-again-leads k x z m (rings (own .side) (own .notfull)) b e d (door-stop k x z m (rings (own .side) (own .notfull)) b (bitOn (worth Shutdown) v) (bitOn (worth (closeMark (other (own .side)))) v) h d refl)
+leads own k x z b c m l v f (GateAgain e) h = rw h (gate-again-leads k x z m (rings (own .side) (own .notfull)) b (own .side) e z refl)
 leads own k x z b c m l v f (Wait e) h =
     wait-leads k x z m (rings (own .side) (own .notfull)) b e (waitOp (sleepBell (own .side))) f (napOf f (eqb v e)) (λ q. sym h ∙ eqb-true v e (nap-sleeps f (eqb v e) q))
 leads own k x z b c m l v f Asleep h = dreams
+leads own k x z b c m l v f (LastLook q) h = rw h (last-leads k x z m (rings (own .side) (own .notfull)) b q k refl)
 leads own k x z b c m l v f CloseSet h = close-leads k x z m (rings (own .side) (own .notfull)) b (rings (own .side) (own .notfull)) refl
 leads own k x z b c m l v f CloseRaise h = close-raises
 leads own k x z b c m l v f CloseWake h = close-wakes

@@ -14,7 +14,7 @@ use Rattle.types.specs.declared.Fit.the-variants.{Bad, Small}
 use Rattle.types.specs.declared.Stance.{Stance}
 use Rattle.types.specs.declared.Stance.the-variants.{Resting, Sleeping}
 use Rattle.types.specs.declared.Step.{Step}
-use Rattle.types.specs.declared.Step.the-variants.{Rest, Look, Copy, Gate, GateAgain, Wait, Asleep}
+use Rattle.types.specs.declared.Step.the-variants.{Rest, Look, Copy, Gate, GateAgain, Wait, Asleep, LastLook}
 use Rattle.types.specs.declared.Move.{Move}
 use Rattle.types.specs.declared.Move.the-variants.{Still, To, End}
 use Rattle.types.specs.declared.Woke.the-variants.{Nobody}
@@ -30,7 +30,7 @@ use Rattle.rules.specs.Take.{stanceOf, answerOf, stepAfter, closedAfter,
 use Rattle.rules.specs.Next.{slotAccess, nextAt, nextSpec}
 use Rattle.rules.specs.Access.{slotOf, valueOf, leavesOf, copiedOut, bufferOf}
 use Rattle.rules.specs.Turn.{errorOf, taken, wokeOf, actSpec, actLeaves, actBuffer, turnSpec, turnLeaves, turnBuffer}
-use Rattle.rules.specs.Given.{EndsWith, published, checked, woke, closed-alone, closed, shut, corrupt, bad-slot, too-small, full, empty, left, left-again, down, down-again, timed-out, wake-failed, close-failed, wait-failed, shut-failed, shut-failed-last, resting, asleep, goes-on, turn}
+use Rattle.rules.specs.Given.{EndsWith, published, checked, woke, closed-alone, closed, shut, corrupt, bad-slot, too-small, full, empty, left, left-again, none-left, down, down-again, timed-out, wake-failed, close-failed, wait-failed, shut-failed, shut-failed-last, resting, asleep, goes-on, turn}
 use Rattle.rules.specs.Leaves.{Leaves}
 use Rattle.rules.proofs.Answered.{ends-only}
 
@@ -152,11 +152,12 @@ module _ (side : Side) (r : List ℕ) (p : Party) (i o : List ℕ) (f : Fault) (
   ends-leaves (too-small s q h) = (copy-kept s q Small refl h, turn-rests (too-small s q h) refl)
   ends-leaves (full s q b h) = (looks-kept (LoadCounter (other (p .own .side))) (next-is Look s) refl refl, turn-rests (full s q b h) refl)
   ends-leaves (empty s q b h) = (looks-kept (LoadCounter (other (p .own .side))) (next-is Look s) refl refl, turn-rests (empty s q b h) refl)
-  ends-leaves (left s d) = (looks-kept LoadFlags (next-is Gate s) refl refl, turn-rests (left s d) refl)
-  ends-leaves (left-again {epoch} s d) = (looks-kept LoadFlags (next-is (GateAgain epoch) s) refl refl, turn-rests (left-again s d) refl)
+  ends-leaves (left s q d) = (looks-kept LoadFlags (next-is Gate s) refl refl, turn-rests (left s q d) refl)
+  ends-leaves (left-again {epoch} s q d) = (looks-kept LoadFlags (next-is (GateAgain epoch) s) refl refl, turn-rests (left-again s q d) refl)
+  ends-leaves (none-left s r) = (looks-kept (LoadCounter (other (p .own .side))) (next-is (LastLook false) s) refl refl, turn-rests (none-left s r) refl)
   ends-leaves (down s d) = (looks-kept LoadFlags (next-is Gate s) refl refl, turn-rests (down s d) refl)
   ends-leaves (down-again {epoch} s d) = (looks-kept LoadFlags (next-is (GateAgain epoch) s) refl refl, turn-rests (down-again s d) refl)
-  ends-leaves (timed-out {epoch} s n) = (looks-kept (WaitBell (sleepBell (p .own .side)) epoch) (next-is (Wait epoch) s) refl refl, turn-rests (timed-out s n) refl)
+  ends-leaves (timed-out s r) = (looks-kept (LoadCounter (other (p .own .side))) (next-is (LastLook true) s) refl refl, turn-rests (timed-out s r) refl)
   ends-leaves (wake-failed s z) = turn-rests (wake-failed s z) refl
   ends-leaves (close-failed s z) = turn-rests (close-failed s z) refl
   ends-leaves (wait-failed s n) = turn-rests (wait-failed s n) refl

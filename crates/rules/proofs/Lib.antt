@@ -10,6 +10,7 @@ pub mod Rings
 pub mod Rooms
 pub mod Leads
 pub mod Does
+pub mod Parting
 pub mod Kept
 pub mod Seats
 pub mod Ring
@@ -34,6 +35,8 @@ pub mod Bound
 pub mod Asks
 pub mod Ending
 pub mod Delivers
+pub mod Sealed
+pub mod OverNone
 pub mod Sized
 pub mod UntilSleep
 pub mod Drowsy

@@ -16,7 +16,7 @@ use Rattle.types.specs.declared.Side.the-variants.{Sender, Recorder}
 use Rattle.types.specs.declared.Party.{Party}
 use Rattle.types.specs.declared.Fault.{Fault}
 use Rattle.types.specs.declared.Step.{Step}
-use Rattle.types.specs.declared.Step.the-variants.{Rest, Look, Copy, Publish, Check, Raise, Wake, Gate, Epoch, Again, GateAgain, Wait, Asleep, CloseSet, CloseRaise, CloseWake, ShutSet, ShutRaiseNe, ShutWakeNe, ShutRaiseNf, ShutWakeNf}
+use Rattle.types.specs.declared.Step.the-variants.{Rest, Look, Copy, Publish, Check, Raise, Wake, Gate, Epoch, Again, GateAgain, Wait, Asleep, LastLook, CloseSet, CloseRaise, CloseWake, ShutSet, ShutRaiseNe, ShutWakeNe, ShutRaiseNf, ShutWakeNf}
 use Rattle.types.specs.declared.Access.{Access}
 use Rattle.layout.specs.Limits.{powerOk, slotOk}
 use Rattle.layout.specs.Header.{flagsAt, bellAt}
@@ -31,7 +31,7 @@ use Rattle.rules.specs.Phase.{phase, sleeps}
 use Rattle.rules.proofs.After.{flagsBy}
 use Rattle.rules.proofs.Kept.{flags-are}
 use Rattle.rules.proofs.Seats.{moved, roused, roused-elim}
-use Rattle.rules.proofs.Leads.{stopAt}
+use Rattle.rules.proofs.Leads.{stopAt, stop-barred}
 use Rattle.rules.proofs.Taken.{seat-own, seat-other}
 use Rattle.rules.proofs.RealTurn.{access-is, next-step, leads-here, after-turn}
 use Rattle.rules.proofs.Heard.{duty, Good, risen, rungBy, roomBy, wakesAt, theirs}
@@ -78,6 +78,7 @@ own-room-still s k h = by s h
     by (GateAgain e) h = refl
     by (Wait e) h = refl
     by Asleep h = refl
+    by (LastLook c) h = refl
     by CloseSet h = refl
     by CloseRaise h = refl
     by CloseWake h = refl
@@ -102,6 +103,7 @@ asleep-step (Again n) e = absurd (let z : _≡_ {A = ℕ} 0 1 = cc in omega arit
 asleep-step (GateAgain n) e = absurd (let z : _≡_ {A = ℕ} 0 1 = cc in omega arith)
 asleep-step (Wait n) e = absurd (let z : _≡_ {A = ℕ} 0 1 = cc in omega arith)
 asleep-step Asleep e = refl
+asleep-step (LastLook c) e = absurd (let z : _≡_ {A = ℕ} 0 1 = cc in omega arith)
 asleep-step CloseSet e = absurd (let z : _≡_ {A = ℕ} 0 1 = cc in omega arith)
 asleep-step CloseRaise e = absurd (let z : _≡_ {A = ℕ} 0 1 = cc in omega arith)
 asleep-step CloseWake e = absurd (let z : _≡_ {A = ℕ} 0 1 = cc in omega arith)
@@ -182,9 +184,9 @@ module _ (P S v : ℕ) (on : Bool) (power-ok : powerOk P ≡ true) (slot-ok : sl
       (λ u. (
         ap (rungOf side) trace-is ∙ rung-own p payload buffer t side s u,
         ap (roomIn P S v on side) trace-is ∙ room-own-is p payload buffer t P S v on r (real .queue) side s (real .sides side .room) ∙ own-room-still s _ u,
-        ap (stopAt side) (flags-left ∙ flags-still side (p .counter) (leAt 4 r flagsAt) s (waits-still s u)),
+        ap (stopAt side) (flags-left ∙ flags-still side (p .counter) (leAt 4 r flagsAt) s (waits-still s u)) ∙ sym (stop-barred side (leAt 4 r flagsAt)),
       ))
-      y)
+      (rw (stop-barred side (leAt 4 r flagsAt)) y))
   ready-own false timely y =
       rw mover-is (tries _ _ _ _ _ _ s next (leads-here P S v on power-ok slot-ok w real side payload lent fault g) y)
 

@@ -1,114 +1,145 @@
 -- The turns that are left to a call's end where a flag is up.
-use mathlib.Core.Path.{_≡_, refl}
+use mathlib.Core.Path.{_≡_, refl, sym, ap, _∙_}
 use mathlib.Core.Bool.{Bool, true}
-use Prim.Native.Nat.{ℕ, _-_, _≤_}
+use Prim.Native.Nat.{ℕ, zero, suc, _-_, _<_, _≤_}
 use native.Mathlib.Omega.{arith}
+use Rattle.types.specs.declared.Door.{Door}
 use Rattle.types.specs.declared.Step.{Step}
-use Rattle.types.specs.declared.Step.the-variants.{Rest, Look, Copy, Publish, Check, Raise, Wake, Gate, Epoch, Again, GateAgain, Wait, Asleep, CloseSet, CloseRaise, CloseWake, ShutSet, ShutRaiseNe, ShutWakeNe, ShutRaiseNf, ShutWakeNf}
-use Rattle.rules.proofs.Leads.{Leads, idles, finds, blocks, gives-up, copies, spills, tells, stores, owes, passes, raises, wakes, enters, stops, reads, finds-again, stays, enters-again, stops-again, returns, ends, dreams, closes, closes-alone, close-raises, close-wakes, shuts, shut-raises, shut-wakes, shut-raises-again, shut-wakes-again, sleeps as falls-asleep}
-use Rattle.rules.proofs.Costs.{less}
+use Rattle.types.specs.declared.Step.the-variants.{Rest, Look, Copy, Publish, Check, Raise, Wake, Gate, Epoch, Again, GateAgain, Wait, Asleep, LastLook, CloseSet, CloseRaise, CloseWake, ShutSet, ShutRaiseNe, ShutWakeNe, ShutRaiseNf, ShutWakeNf}
+use Rattle.rules.proofs.Leads.{barred, Leads, idles, finds, blocks, gives-up, copies, spills, tells, stores, owes, passes, raises, wakes, enters, stops, reads, finds-again, stays, enters-again, stops-again, returns, ends, dreams, glances, glances-again, times-out, finds-last, finds-none, closes, closes-alone, close-raises, close-wakes, shuts, shut-raises, shut-wakes, shut-raises-again, shut-wakes-again, sleeps as falls-asleep}
+use Rattle.rules.proofs.Costs.{less, ownRoom}
 
--- the turns that are left to a call, where each look at the flags ends it
-abbrev pub toRest : Step → ℕ
-toRest Rest = 0
-toRest Look = 6
-toRest Copy = 5
-toRest (Publish l g) = 4
-toRest (Check l g) = 3
-toRest (Raise l g) = 2
-toRest (Wake l g) = 1
-toRest Gate = 1
-toRest Epoch = 7
-toRest (Again e) = 6
-toRest (GateAgain e) = 1
-toRest (Wait e) = 7
-toRest Asleep = 6
-toRest CloseSet = 3
-toRest CloseRaise = 2
-toRest CloseWake = 1
-toRest (ShutSet c) = 5
-toRest (ShutRaiseNe c) = 4
-toRest (ShutWakeNe c) = 3
-toRest (ShutRaiseNf c f) = 2
-toRest (ShutWakeNf c f) = 1
+-- a look that finds room copies and goes on to a store; one that finds none comes to the flags, and to a last look at most
+abbrev byRoom : ℕ → (none some : ℕ) → ℕ
+byRoom zero none some = none
+byRoom (suc k) none some = some
 
-pub seven : (s : Step) → toRest s ≤ 7
-seven Rest = omega arith
-seven Look = omega arith
-seven Copy = omega arith
-seven (Publish l g) = omega arith
-seven (Check l g) = omega arith
-seven (Raise l g) = omega arith
-seven (Wake l g) = omega arith
-seven Gate = omega arith
-seven Epoch = omega arith
-seven (Again e) = omega arith
-seven (GateAgain e) = omega arith
-seven (Wait e) = omega arith
-seven Asleep = omega arith
-seven CloseSet = omega arith
-seven CloseRaise = omega arith
-seven CloseWake = omega arith
-seven (ShutSet c) = omega arith
-seven (ShutRaiseNe c) = omega arith
-seven (ShutWakeNe c) = omega arith
-seven (ShutRaiseNf c f) = omega arith
-seven (ShutWakeNf c f) = omega arith
+-- the turns that are left to a call, where each look at the flags is its last; k is its room
+abbrev pub toRest : Step → (k : ℕ) → ℕ
+toRest Rest k = 0
+toRest Look k = byRoom k 3 6
+toRest Copy k = 5
+toRest (Publish l g) k = 4
+toRest (Check l g) k = 3
+toRest (Raise l g) k = 2
+toRest (Wake l g) k = 1
+toRest Gate k = byRoom k 2 7
+toRest Epoch k = 7
+toRest (Again e) k = byRoom k 3 6
+toRest (GateAgain e) k = byRoom k 2 7
+toRest (Wait e) k = 7
+toRest Asleep k = 6
+toRest (LastLook c) k = byRoom k 1 6
+toRest CloseSet k = 3
+toRest CloseRaise k = 2
+toRest CloseWake k = 1
+toRest (ShutSet c) k = 5
+toRest (ShutRaiseNe c) k = 4
+toRest (ShutWakeNe c) k = 3
+toRest (ShutRaiseNf c f) k = 2
+toRest (ShutWakeNf c f) k = 1
 
-pub rested : (s : Step) → toRest s ≤ 0 → s ≡ Rest
-rested Rest h = refl
-rested Look h = absurd (omega arith)
-rested Copy h = absurd (omega arith)
-rested (Publish l g) h = absurd (omega arith)
-rested (Check l g) h = absurd (omega arith)
-rested (Raise l g) h = absurd (omega arith)
-rested (Wake l g) h = absurd (omega arith)
-rested Gate h = absurd (omega arith)
-rested Epoch h = absurd (omega arith)
-rested (Again e) h = absurd (omega arith)
-rested (GateAgain e) h = absurd (omega arith)
-rested (Wait e) h = absurd (omega arith)
-rested Asleep h = absurd (omega arith)
-rested CloseSet h = absurd (omega arith)
-rested CloseRaise h = absurd (omega arith)
-rested CloseWake h = absurd (omega arith)
-rested (ShutSet c) h = absurd (omega arith)
-rested (ShutRaiseNe c) h = absurd (omega arith)
-rested (ShutWakeNe c) h = absurd (omega arith)
-rested (ShutRaiseNf c f) h = absurd (omega arith)
-rested (ShutWakeNf c f) h = absurd (omega arith)
+pub room-le : (k none some most : ℕ) → none ≤ most → some ≤ most → byRoom k none some ≤ most
+room-le zero none some most h g = h
+room-le (suc k) none some most h g = g
+
+room-not : (k none some : ℕ) → 0 < none → 0 < some → byRoom k none some ≤ 0 → ⊥
+room-not zero none some h g l = omega arith
+room-not (suc k) none some h g l = omega arith
+
+pub seven : (s : Step) (k : ℕ) → toRest s k ≤ 7
+seven Rest k = omega arith
+seven Look k = room-le k 3 6 7 (omega arith) (omega arith)
+seven Copy k = omega arith
+seven (Publish l g) k = omega arith
+seven (Check l g) k = omega arith
+seven (Raise l g) k = omega arith
+seven (Wake l g) k = omega arith
+seven Gate k = room-le k 2 7 7 (omega arith) (omega arith)
+seven Epoch k = omega arith
+seven (Again e) k = room-le k 3 6 7 (omega arith) (omega arith)
+seven (GateAgain e) k = room-le k 2 7 7 (omega arith) (omega arith)
+seven (Wait e) k = omega arith
+seven Asleep k = omega arith
+seven (LastLook c) k = room-le k 1 6 7 (omega arith) (omega arith)
+seven CloseSet k = omega arith
+seven CloseRaise k = omega arith
+seven CloseWake k = omega arith
+seven (ShutSet c) k = omega arith
+seven (ShutRaiseNe c) k = omega arith
+seven (ShutWakeNe c) k = omega arith
+seven (ShutRaiseNf c f) k = omega arith
+seven (ShutWakeNf c f) k = omega arith
+
+pub rested : (s : Step) (k : ℕ) → toRest s k ≤ 0 → s ≡ Rest
+rested Rest k h = refl
+rested Look k h = absurd (room-not k 3 6 (omega arith) (omega arith) h)
+rested Copy k h = absurd (omega arith)
+rested (Publish l g) k h = absurd (omega arith)
+rested (Check l g) k h = absurd (omega arith)
+rested (Raise l g) k h = absurd (omega arith)
+rested (Wake l g) k h = absurd (omega arith)
+rested Gate k h = absurd (room-not k 2 7 (omega arith) (omega arith) h)
+rested Epoch k h = absurd (omega arith)
+rested (Again e) k h = absurd (room-not k 3 6 (omega arith) (omega arith) h)
+rested (GateAgain e) k h = absurd (room-not k 2 7 (omega arith) (omega arith) h)
+rested (Wait e) k h = absurd (omega arith)
+rested Asleep k h = absurd (omega arith)
+rested (LastLook c) k h = absurd (room-not k 1 6 (omega arith) (omega arith) h)
+rested CloseSet k h = absurd (omega arith)
+rested CloseRaise k h = absurd (omega arith)
+rested CloseWake k h = absurd (omega arith)
+rested (ShutSet c) k h = absurd (omega arith)
+rested (ShutRaiseNe c) k h = absurd (omega arith)
+rested (ShutWakeNe c) k h = absurd (omega arith)
+rested (ShutRaiseNf c f) k h = absurd (omega arith)
+rested (ShutWakeNf c f) k h = absurd (omega arith)
+
+-- a turn with room and one without each take one off
+room-down : (k a b c d : ℕ) → (k ≡ 0 → a ≤ less c) → (0 < k → b ≤ less d) → byRoom k a b ≤ less (byRoom k c d)
+room-down zero a b c d h g = h refl
+room-down (suc k) a b c d h g = g (omega arith)
+
+room-found : (k none : ℕ) → 0 < k → 5 ≤ less (byRoom k none 6)
+room-found zero none h = absurd (omega arith)
+room-found (suc k) none h = omega arith
 
 -- with a flag up, a turn takes one off them, but for a sleeper's
-pub nearer : (k x : ℕ) (m r : Bool) (b : ℕ) (s next : Step) → Leads k x true m r b s next → (s ≡ Asleep → ⊥) → toRest next ≤ less (toRest s)
-nearer k x m r b s next idles d = omega arith
-nearer k x m r b s next (finds h) d = omega arith
-nearer k x m r b s next (blocks h q) d = omega arith
-nearer k x m r b s next (gives-up h q) d = omega arith
-nearer k x m r b s next copies d = omega arith
-nearer k x m r b s next spills d = omega arith
-nearer k x m r b s next (tells h) d = omega arith
-nearer k x m r b s next (stores h) d = omega arith
-nearer k x m r b s next (owes h) d = omega arith
-nearer k x m r b s next (passes h) d = omega arith
-nearer k x m r b s next raises d = omega arith
-nearer k x m r b s next wakes d = omega arith
-nearer k x m r b s next (enters h) d = absurd (let u : _≡_ {A = ℕ} 0 1 = cc in omega arith)
-nearer k x m r b s next (stops h) d = omega arith
-nearer k x m r b s next reads d = omega arith
-nearer k x m r b s next (finds-again h) d = omega arith
-nearer k x m r b s next (stays h) d = omega arith
-nearer k x m r b s next (enters-again h) d = absurd (let u : _≡_ {A = ℕ} 0 1 = cc in omega arith)
-nearer k x m r b s next (stops-again h) d = omega arith
-nearer k x m r b s next (falls-asleep h) d = omega arith
-nearer k x m r b s next returns d = omega arith
-nearer k x m r b s next ends d = omega arith
-nearer k x m r b s next dreams d = absurd (d refl)
-nearer k x m r b s next (closes h) d = omega arith
-nearer k x m r b s next (closes-alone h) d = omega arith
-nearer k x m r b s next close-raises d = omega arith
-nearer k x m r b s next close-wakes d = omega arith
-nearer k x m r b s next shuts d = omega arith
-nearer k x m r b s next shut-raises d = omega arith
-nearer k x m r b s next shut-wakes d = omega arith
-nearer k x m r b s next shut-raises-again d = omega arith
-nearer k x m r b s next shut-wakes-again d = omega arith
+pub nearer : (k x : ℕ) (z : Door) (m r : Bool) (b : ℕ) (s next : Step) → Leads k x z m r b s next → barred z ≡ true → (s ≡ Asleep → ⊥) → toRest next (ownRoom s k) ≤ less (toRest s k)
+nearer k x z m r b s next idles y d = omega arith
+nearer k x z m r b s next (finds h) y d = room-found k 3 h
+nearer k x z m r b s next (blocks h q) y d = room-down k 2 7 3 6 (λ e. omega arith) (λ e. omega arith)
+nearer k x z m r b s next (gives-up h q) y d = omega arith
+nearer k x z m r b s next copies y d = omega arith
+nearer k x z m r b s next spills y d = omega arith
+nearer k x z m r b s next (tells h) y d = omega arith
+nearer k x z m r b s next (stores h) y d = omega arith
+nearer k x z m r b s next (owes h) y d = omega arith
+nearer k x z m r b s next (passes h) y d = omega arith
+nearer k x z m r b s next raises y d = omega arith
+nearer k x z m r b s next wakes y d = omega arith
+nearer k x z m r b s next (enters h) y d = absurd (let q = sym y ∙ ap barred h in let u : _≡_ {A = ℕ} 0 1 = cc in omega arith)
+nearer k x z m r b s next (stops h) y d = omega arith
+nearer k x z m r b s next reads y d = room-le k 3 6 6 (omega arith) (omega arith)
+nearer k x z m r b s next (finds-again h) y d = room-found k 3 h
+nearer k x z m r b s next (stays h) y d = room-down k 2 7 3 6 (λ e. omega arith) (λ e. omega arith)
+nearer k x z m r b s next (enters-again h) y d = absurd (let q = sym y ∙ ap barred h in let u : _≡_ {A = ℕ} 0 1 = cc in omega arith)
+nearer k x z m r b s next (stops-again h) y d = omega arith
+nearer k x z m r b s next (falls-asleep h) y d = omega arith
+nearer k x z m r b s next returns y d = room-le k 3 6 6 (omega arith) (omega arith)
+nearer k x z m r b s next ends y d = omega arith
+nearer k x z m r b s next dreams y d = absurd (d refl)
+nearer k x z m r b s next (glances h) y d = room-down k 1 6 2 7 (λ e. omega arith) (λ e. omega arith)
+nearer k x z m r b s next (glances-again h) y d = room-down k 1 6 2 7 (λ e. omega arith) (λ e. omega arith)
+nearer k x z m r b s next times-out y d = room-le k 1 6 6 (omega arith) (omega arith)
+nearer k x z m r b s next (finds-last h) y d = room-found k 1 h
+nearer k x z m r b s next (finds-none h) y d = omega arith
+nearer k x z m r b s next (closes h) y d = omega arith
+nearer k x z m r b s next (closes-alone h) y d = omega arith
+nearer k x z m r b s next close-raises y d = omega arith
+nearer k x z m r b s next close-wakes y d = omega arith
+nearer k x z m r b s next shuts y d = omega arith
+nearer k x z m r b s next shut-raises y d = omega arith
+nearer k x z m r b s next shut-wakes y d = omega arith
+nearer k x z m r b s next shut-raises-again y d = omega arith
+nearer k x z m r b s next shut-wakes-again y d = omega arith

@@ -1,12 +1,13 @@
 -- A turn of one's own: what a waiter may rely on after it.
-use mathlib.Core.Path.{_≡_, refl, sym, _∙_}
+use mathlib.Core.Path.{_≡_, refl, sym, ap, _∙_}
 use mathlib.Core.Bool.{Bool, true, false}
 use Prim.Native.Nat.{ℕ, _-_}
 use native.Mathlib.Omega.{arith}
+use Rattle.types.specs.declared.Door.{Door}
 use Rattle.types.specs.declared.Step.{Step}
 use Rattle.types.specs.declared.Step.the-variants.{Wait}
-use Rattle.rules.specs.Phase.{Phase, resting, looking, copying, publishing, telling, asking, armed, poised, waits, sleeps, leaving, phase}
-use Rattle.rules.proofs.Leads.{Leads, idles, finds, blocks, gives-up, copies, spills, tells, stores, owes, passes, raises, wakes, enters, stops, reads, finds-again, stays, enters-again, stops-again, returns, ends, dreams, closes, closes-alone, close-raises, close-wakes, shuts, shut-raises, shut-wakes, shut-raises-again, shut-wakes-again, sleeps as falls-asleep}
+use Rattle.rules.specs.Phase.{Phase, resting, looking, copying, publishing, telling, asking, armed, poised, waits, sleeps, glancing, leaving, phase}
+use Rattle.rules.proofs.Leads.{barred, Leads, idles, finds, blocks, gives-up, copies, spills, tells, stores, owes, passes, raises, wakes, enters, stops, reads, finds-again, stays, enters-again, stops-again, returns, ends, dreams, glances, glances-again, times-out, finds-last, finds-none, closes, closes-alone, close-raises, close-wakes, shuts, shut-raises, shut-wakes, shut-raises-again, shut-wakes-again, sleeps as falls-asleep}
 use Rattle.rules.proofs.Heard.{Duty, none, checking, raising, waking, Due, Good}
 
 -- a step of a wait, whose turn changes nothing that the waiter relies on
@@ -21,6 +22,7 @@ waitsOnAt (armed e) = true
 waitsOnAt (poised e) = true
 waitsOnAt (waits e) = true
 waitsOnAt sleeps = true
+waitsOnAt glancing = false
 waitsOnAt leaving = false
 
 abbrev pub waitsOn : Step → Bool
@@ -33,8 +35,8 @@ later raising k x = tt
 later waking k x = tt
 
 -- the wait goes on only over what was seen: no room, no flag, no raise
-pub own : (k x : ℕ) (z m r : Bool) (b : ℕ) (s next : Step) → Leads k x z m r b s next → (n : ℕ) (d : Duty) → ((e : ℕ) → s ≡ Wait e → b ≡ e → n ≡ 0)
-    → (n′ k′ : ℕ) (z′ : Bool) → (waitsOn s ≡ true → (n′ ≡ n) × (k′ ≡ k) × (z′ ≡ z)) → Good (phase s) n k z d → Good (phase next) n′ k′ z′ d
+pub own : (k x : ℕ) (z : Door) (m r : Bool) (b : ℕ) (s next : Step) → Leads k x z m r b s next → (n : ℕ) (d : Duty) → ((e : ℕ) → s ≡ Wait e → b ≡ e → n ≡ 0)
+    → (n′ k′ : ℕ) (z′ : Bool) → (waitsOn s ≡ true → (n′ ≡ n) × (k′ ≡ k) × (z′ ≡ barred z)) → Good (phase s) n k (barred z) d → Good (phase next) n′ k′ z′ d
 own k x z m r b s next idles n d p n′ k′ z′ f y = tt
 own k x z m r b s next (finds h) n d p n′ k′ z′ f y = tt
 own k x z m r b s next (blocks h q) n d p n′ k′ z′ f y = tt
@@ -52,12 +54,17 @@ own k x z m r b s next (stops h) n d p n′ k′ z′ f y = tt
 own k x z m r b s next reads n d p n′ k′ z′ f y = tt
 own k x z m r b s next (finds-again h) n d p n′ k′ z′ f y = tt
 own k x z m r b s next (stays h) n d p n′ k′ z′ f y = λ q. rw ((f refl) .1 ∙ h) (λ c. absurd c)
-own k x z m r b s next (enters-again h) n d p n′ k′ z′ f y = λ q c. rw ((f refl) .1) (y (sym ((f refl) .0) ∙ q) (rw ((f refl) .1, (f refl) .2 ∙ h) at c))
+own k x z m r b s next (enters-again h) n d p n′ k′ z′ f y = λ q c. rw ((f refl) .1) (y (sym ((f refl) .0) ∙ q) (rw ((f refl) .1, (f refl) .2 ∙ ap barred h) at c))
 own k x z m r b s next (stops-again h) n d p n′ k′ z′ f y = tt
 own k x z m r b s next (falls-asleep h) n d p n′ k′ z′ f y = λ c. rw ((f refl) .1) (later d k (y (p _ refl h) (rw ((f refl) .1, (f refl) .2) at c)))
 own k x z m r b s next returns n d p n′ k′ z′ f y = tt
 own k x z m r b s next ends n d p n′ k′ z′ f y = tt
 own k x z m r b s next dreams n d p n′ k′ z′ f y = λ c. rw ((f refl) .1) (y (rw ((f refl) .1, (f refl) .2) at c))
+own k x z m r b s next (glances h) n d p n′ k′ z′ f y = tt
+own k x z m r b s next (glances-again h) n d p n′ k′ z′ f y = tt
+own k x z m r b s next times-out n d p n′ k′ z′ f y = tt
+own k x z m r b s next (finds-last h) n d p n′ k′ z′ f y = tt
+own k x z m r b s next (finds-none h) n d p n′ k′ z′ f y = tt
 own k x z m r b s next (closes h) n d p n′ k′ z′ f y = tt
 own k x z m r b s next (closes-alone h) n d p n′ k′ z′ f y = tt
 own k x z m r b s next close-raises n d p n′ k′ z′ f y = tt
@@ -81,9 +88,10 @@ Tries false (armed e) = ⊥
 Tries false (poised e) = ⊥
 Tries false (waits e) = ⊥
 Tries false sleeps = ⊥
+Tries false glancing = Unit
 Tries false leaving = Unit
 
-pub tries : (k x : ℕ) (z m r : Bool) (b : ℕ) (s next : Step) → Leads k x z m r b s next → Tries m (phase s) → Tries m (phase next)
+pub tries : (k x : ℕ) (z : Door) (m r : Bool) (b : ℕ) (s next : Step) → Leads k x z m r b s next → Tries m (phase s) → Tries m (phase next)
 tries k x z true r b s next idles y = y
 tries k x z false r b s next idles y = tt
 tries k x z true r b s next (finds h) y = y
@@ -130,6 +138,11 @@ tries k x z true r b s next ends y = y
 tries k x z false r b s next ends y = absurd y
 tries k x z true r b s next dreams y = y
 tries k x z false r b s next dreams y = absurd y
+tries k x z false r b s next (glances h) y = absurd y
+tries k x z false r b s next (glances-again h) y = absurd y
+tries k x z false r b s next times-out y = absurd y
+tries k x z false r b s next (finds-last h) y = tt
+tries k x z false r b s next (finds-none h) y = tt
 tries k x z true r b s next (closes h) y = y
 tries k x z false r b s next (closes h) y = tt
 tries k x z true r b s next (closes-alone h) y = y

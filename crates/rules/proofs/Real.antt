@@ -12,14 +12,14 @@ use Rattle.types.specs.declared.Side.the-variants.{Sender, Recorder}
 use Rattle.types.specs.declared.Own.{Own}
 use Rattle.types.specs.declared.SlotHead.{SlotHead}
 use Rattle.types.specs.declared.Party.{Party}
-use Rattle.types.specs.declared.Step.the-variants.{Rest}
+use Rattle.types.specs.declared.Step.the-variants.{Rest, LastLook}
 use Rattle.layout.specs.Limits.{capacity, payloadCapacity, totalBytes}
 use Rattle.layout.specs.Flags.{worth, notFullOn, reservedFrom, bitOn, attachMark, closeMark}
 use Rattle.layout.specs.Header.{powerAt, slotSizeAt, flagsAt, counterAt, bellAt}
 use Rattle.layout.specs.Slots.{headWord, headOf, payloadIn}
-use Rattle.rules.specs.Sides.{sleepBell}
+use Rattle.rules.specs.Sides.{other, sleepBell}
 use Rattle.rules.specs.Access.{slotOf}
-use Rattle.rules.specs.Phase.{Phase, resting, looking, copying, publishing, telling, asking, armed, poised, waits, sleeps, leaving, phase}
+use Rattle.rules.specs.Phase.{Phase, resting, looking, copying, publishing, telling, asking, armed, poised, waits, sleeps, glancing, leaving, phase}
 use Rattle.rules.specs.Run.{Note, Trace, World, rungOf, partyIn}
 
 -- how many notes a side has published
@@ -39,6 +39,7 @@ HasRoom (armed e) k = Unit
 HasRoom (poised e) k = Unit
 HasRoom (waits e) k = Unit
 HasRoom sleeps k = Unit
+HasRoom glancing k = Unit
 HasRoom leaving k = Unit
 
 -- more room is room
@@ -53,6 +54,7 @@ has-more (armed e) k j q h = tt
 has-more (poised e) k j q h = tt
 has-more (waits e) k j q h = tt
 has-more sleeps k j q h = tt
+has-more glancing k j q h = tt
 has-more leaving k j q h = tt
 
 -- a phase that has nothing in hand
@@ -67,7 +69,23 @@ free (armed e) = true
 free (poised e) = true
 free (waits e) = true
 free sleeps = true
+free glancing = true
 free leaving = true
+
+-- one that has closed is between calls, in a close or in a shutdown
+abbrev pub parts : Phase → Bool
+parts resting = true
+parts looking = false
+parts copying = false
+parts (publishing l g) = false
+parts (telling l g) = false
+parts asking = false
+parts (armed e) = false
+parts (poised e) = false
+parts (waits e) = false
+parts sleeps = false
+parts glancing = false
+parts leaving = true
 
 -- one that carries an epoch knows how often its bell was raised since, wrapped
 abbrev pub Since : Phase → (bell rung : ℕ) → Type 0
@@ -81,6 +99,7 @@ Since (armed e) bell rung = bell % 2 ^ 32 ≡ plus 32 e rung
 Since (poised e) bell rung = bell % 2 ^ 32 ≡ plus 32 e rung
 Since (waits e) bell rung = bell % 2 ^ 32 ≡ plus 32 e rung
 Since sleeps bell rung = Unit
+Since glancing bell rung = Unit
 Since leaving bell rung = Unit
 
 abbrev pub blank : Note
@@ -124,6 +143,7 @@ module _ (P S v : ℕ) (on : Bool) where
   InHand Sender (poised e) r t = Unit
   InHand Sender (waits e) r t = Unit
   InHand Sender sleeps r t = Unit
+  InHand Sender glancing r t = Unit
   InHand Sender leaving r t = Unit
   InHand Recorder resting r t = Unit
   InHand Recorder looking r t = Unit
@@ -136,14 +156,18 @@ module _ (P S v : ℕ) (on : Bool) where
   InHand Recorder (poised e) r t = Unit
   InHand Recorder (waits e) r t = Unit
   InHand Recorder sleeps r t = Unit
+  InHand Recorder glancing r t = Unit
   InHand Recorder leaving r t = Unit
 
-  -- a seat: its flags tell whether it is taken and closed; who sits there has the sizes and the counter; an empty one rests
+  -- a seat: its flags tell whether it is taken and closed; who sits there has the sizes and the counter; an empty one rests;
+  -- one that has closed neither pushes nor pops; one at its last look for the other's close has seen that bit
   pub record Seated (side : Side) (p : Party) (t : Trace) (flags : ℕ) : Type 0 where
     pub closed-bit : bitOn (worth (closeMark side)) flags ≡ p .closed
     pub attached-bit : bitOn (worth (attachMark side)) flags ≡ p .own .attached
     pub in-place : p .own .attached ≡ true → (p .own ≡ sizes side) × (p .counter ≡ plus 64 v (countOf side t))
     pub empty : p .own .attached ≡ false → (p .step ≡ Rest) × (p .closed ≡ false)
+    pub over : p .closed ≡ true → parts (phase (p .step)) ≡ true
+    pub heard : p .step ≡ LastLook false → bitOn (worth (closeMark (other side))) flags ≡ true
 
   -- the header's fixed words
   pub record Fixed (r : List ℕ) : Type 0 where

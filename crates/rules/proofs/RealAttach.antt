@@ -22,7 +22,7 @@ use Rattle.rules.specs.Sides.{other, sleepBell}
 use Rattle.rules.specs.Access.{leavesOf}
 use Rattle.rules.specs.Bench.{partyOf, seat}
 use Rattle.rules.specs.Run.{Note, World, partyIn, attachSeats}
-use Rattle.rules.specs.Phase.{Phase, resting, looking, copying, publishing, telling, asking, armed, poised, waits, sleeps, leaving, phase}
+use Rattle.rules.specs.Phase.{Phase, resting, looking, copying, publishing, telling, asking, armed, poised, waits, sleeps, glancing, leaving, phase}
 use Rattle.rules.proofs.After.{counter-after, bell-after}
 use Rattle.rules.proofs.Kept.{header-in, flags-are, fixed-kept}
 use Rattle.rules.proofs.Ring.{holds-kept}
@@ -119,6 +119,7 @@ module _ (P S v : ℕ) (on : Bool) (power-ok : powerOk P ≡ true) (slot-ok : sl
   hand-left Sender (poised e) h = tt
   hand-left Sender (waits e) h = tt
   hand-left Sender sleeps h = tt
+  hand-left Sender glancing h = tt
   hand-left Sender leaving h = tt
   hand-left Recorder resting h = tt
   hand-left Recorder looking h = tt
@@ -130,6 +131,7 @@ module _ (P S v : ℕ) (on : Bool) (power-ok : powerOk P ≡ true) (slot-ok : sl
   hand-left Recorder (poised e) h = tt
   hand-left Recorder (waits e) h = tt
   hand-left Recorder sleeps h = tt
+  hand-left Recorder glancing h = tt
   hand-left Recorder leaving h = tt
 
   other-left : Side-good P S v on (other side) left (partyIn w (other side)) (w .trace)
@@ -143,6 +145,8 @@ module _ (P S v : ℕ) (on : Bool) (power-ok : powerOk P ≡ true) (slot-ok : sl
               attached-bit = rw flags-left (attach-kept side ∙ h .seat .attached-bit);
               in-place = h .seat .in-place;
               empty = h .seat .empty;
+              over = h .seat .over;
+              heard = λ e. rw flags-left (close-kept (other (other side)) side ∙ h .seat .heard e);
             };
         since = rw (bells (other side)) (h .since);
         room = h .room;
@@ -167,6 +171,8 @@ module _ (P S v : ℕ) (on : Bool) (power-ok : powerOk P ≡ true) (slot-ok : sl
                 attached-bit = rw flags-left (attach-set side);
                 in-place = λ e. (rw (f .power-at, f .slot-at, f .option), h .word);
                 empty = λ e. absurd (let z : _≡_ {A = ℕ} 0 1 = cc in omega arith);
+                over = λ e. refl;
+                heard = λ e. absurd (let z : _≡_ {A = ℕ} 0 1 = cc in omega arith);
               };
           since = tt;
           room = tt;

@@ -13,8 +13,8 @@ use Rattle.types.specs.declared.Party.{Party}
 use Rattle.types.specs.declared.Reply.{Reply}
 use Rattle.types.specs.declared.Bench.{Bench}
 use Rattle.types.specs.declared.Step.{Step}
-use Rattle.types.specs.declared.Step.the-variants.{Rest, Look, Asleep, CloseSet, ShutSet}
-use Rattle.types.specs.declared.Answer.the-variants.{GoesOn, Timeout}
+use Rattle.types.specs.declared.Step.the-variants.{Rest, Look, Asleep, LastLook, CloseSet, ShutSet}
+use Rattle.types.specs.declared.Answer.the-variants.{GoesOn}
 use Rattle.layout.specs.Limits.{payloadCapacity}
 use Rattle.rules.specs.Sides.{other}
 use Rattle.rules.specs.Take.{stanceOf}
@@ -26,12 +26,13 @@ use Rattle.rules.proofs.Refusals.{ready-rests}
 use Rattle.rules.proofs.Seats.{sleeping-step}
 use Rattle.rules.proofs.RealTurn.{both-sides}
 use Rattle.rules.proofs.Hands.{in-hand-none}
-use Rattle.rules.proofs.Real.{HasRoom, Since, Side-good, Real, free}
+use Rattle.rules.proofs.Real.{HasRoom, parts, Since, Side-good, Real, free}
 
 -- a step that relies on nothing
 pub data Idle : Step → Type 0 where
   rests : Idle Rest
   looks : Idle Look
+  glances : Idle (LastLook true)
   closes : Idle CloseSet
   shuts : {c : Bool} → Idle (ShutSet c)
 
@@ -44,18 +45,19 @@ pub record Begun (side : Side) (p q : Party) : Type 0 where
   pub tag : (p .tag < 2 ^ 16) → (q .tag < 2 ^ 16)
   pub idle : Idle (q .step)
   pub from : (p .step ≡ Rest) ⊎ (p .step ≡ Asleep)
+  pub over : p .closed ≡ true → parts (phase (p .step)) ≡ true → parts (phase (q .step)) ≡ true
   -- a sender that may block is heard
   pub blocks : side ≡ Sender → (q .blocking ≡ p .blocking) ⊎ (q .blocking ≡ true → p .own .notfull ≡ true)
 
 abbrev pub Changed : Side → Party → Party → Type 0
 Changed side p q = (q ≡ p) ⊎ Begun side p q
 
-pub begins-one : (p : Party) (g c o n : Bool) (q : Party) → (begins p g c o n q .party ≡ p) ⊎ ((begins p g c o n q .party ≡ q) × ((g ≡ true) × (o ≡ false)))
+pub begins-one : (p : Party) (g c o n : Bool) (q : Party) → (begins p g c o n q .party ≡ p) ⊎ ((begins p g c o n q .party ≡ q) × ((g ≡ true) × ((c ≡ false) × (o ≡ false))))
 begins-one p false c o n q = inl refl
 begins-one p true true o n q = inl refl
 begins-one p true false true n q = inl refl
 begins-one p true false false true q = inl refl
-begins-one p true false false false q = inr (refl, (refl, refl))
+begins-one p true false false false q = inr (refl, (refl, (refl, refl)))
 
 pub rouses-one : (p : Party) (g s : Bool) (q : Reply) → (rouses p g s q .party ≡ p) ⊎ ((rouses p g s q .party ≡ q .party) × ((g ≡ true) × (s ≡ true)))
 rouses-one p false s q = inl refl
@@ -83,7 +85,7 @@ only-heard false false e h = h
 pub push-changes : (p : Party) (b : Bool) (t l : ℕ) → t < 2 ^ 16 → Changed Sender p (pushSpec p b t l .party)
 unfolding pushSpec
 push-changes p b t l h =
-    changed-by Sender p (pushSpec p b t l .party) (named b t l p) ((ready Sender p ≡ true) × ((b && not (p .own .notfull)) ≡ false))
+    changed-by Sender p (pushSpec p b t l .party) (named b t l p) ((ready Sender p ≡ true) × ((p .closed ≡ false) × ((b && not (p .own .notfull)) ≡ false)))
     (λ e. record {
       own = refl;
       closed = refl;
@@ -92,14 +94,15 @@ push-changes p b t l h =
       tag = λ k. h;
       idle = looks;
       from = inl (ready-rests Sender p (e .0));
-      blocks = λ s. inr (only-heard b (p .own .notfull) (e .1));
+      over = λ c. absurd (let z = sym c ∙ e .1 .0 in let u : _≡_ {A = ℕ} 0 1 = cc in omega arith);
+      blocks = λ s. inr (only-heard b (p .own .notfull) (e .1 .1));
     })
     (begins-one p (ready Sender p) (p .closed) (b && not (p .own .notfull)) (not (leb l (payloadCapacity (p .own .slot)))) (named b t l p))
 
 pub pop-changes : (p : Party) (b : Bool) (l : ℕ) → Changed Recorder p (popSpec p b l .party)
 unfolding popSpec
 pop-changes p b l =
-    changed-by Recorder p (popSpec p b l .party) (named b 0 l p) ((ready Recorder p ≡ true) × (_≡_ {A = Bool} false false))
+    changed-by Recorder p (popSpec p b l .party) (named b 0 l p) ((ready Recorder p ≡ true) × ((p .closed ≡ false) × (_≡_ {A = Bool} false false)))
     (λ e. record {
       own = refl;
       closed = refl;
@@ -108,41 +111,46 @@ pop-changes p b l =
       tag = λ k. omega arith;
       idle = looks;
       from = inl (ready-rests Recorder p (e .0));
+      over = λ c. absurd (let z = sym c ∙ e .1 .0 in let u : _≡_ {A = ℕ} 0 1 = cc in omega arith);
       blocks = λ s. absurd (let z : _≡_ {A = ℕ} 0 1 = cc in omega arith);
     })
     (begins-one p (ready Recorder p) (p .closed) false false (named b 0 l p))
 
 -- a begin that names nothing, and a sleeper's end of sleep: the record at another step
-stepped : (side : Side) (p : Party) (s : Step) → Idle s → p .own .attached ≡ true → (p .step ≡ Rest) ⊎ (p .step ≡ Asleep) → Begun side p (at s p)
-stepped side p s i a f = record { own = refl; closed = refl; counter = refl; attached = a; tag = λ k. k; idle = i; from = f; blocks = λ e. inl refl }
+stepped : (side : Side) (p : Party) (s : Step) → Idle s → p .own .attached ≡ true → (p .step ≡ Rest) ⊎ (p .step ≡ Asleep) → (parts (phase (p .step)) ≡ true → parts (phase s) ≡ true) → Begun side p (at s p)
+stepped side p s i a f o = record { own = refl; closed = refl; counter = refl; attached = a; tag = λ k. k; idle = i; from = f; over = λ c. o; blocks = λ e. inl refl }
+
+-- a sleeper has not closed
+awake-parts : (s : Step) → s ≡ Asleep → {A : Type 0} → parts (phase s) ≡ true → A
+awake-parts s e q = absurd (let y = sym q ∙ ap (λ (u : Step). parts (phase u)) e in let z : _≡_ {A = ℕ} 0 1 = cc in omega arith)
 
 pub close-changes : (side : Side) (p : Party) → Changed side p (closeSpec side p .party)
 unfolding closeSpec
 close-changes side p =
-    changed-by side p (closeSpec side p .party) (at CloseSet p) ((ready side p ≡ true) × (_≡_ {A = Bool} false false))
-    (λ e. stepped side p CloseSet closes (ready-attached side p (e .0)) (inl (ready-rests side p (e .0))))
+    changed-by side p (closeSpec side p .party) (at CloseSet p) ((ready side p ≡ true) × ((p .closed ≡ false) × (_≡_ {A = Bool} false false)))
+    (λ e. stepped side p CloseSet closes (ready-attached side p (e .0)) (inl (ready-rests side p (e .0))) (λ q. refl))
     (begins-one p (ready side p) (p .closed) false false (at CloseSet p))
 
 pub shut-changes : (side : Side) (p : Party) → Changed side p (shutSpec side p .party)
 unfolding shutSpec
 shut-changes side p =
-    changed-by side p (shutSpec side p .party) (at (ShutSet false) p) ((ready side p ≡ true) × (_≡_ {A = Bool} false false))
-    (λ e. stepped side p (ShutSet false) shuts (ready-attached side p (e .0)) (inl (ready-rests side p (e .0))))
+    changed-by side p (shutSpec side p .party) (at (ShutSet false) p) ((ready side p ≡ true) × ((_≡_ {A = Bool} false false) × (_≡_ {A = Bool} false false)))
+    (λ e. stepped side p (ShutSet false) shuts (ready-attached side p (e .0)) (inl (ready-rests side p (e .0))) (λ q. refl))
     (begins-one p (ready side p) false false false (at (ShutSet false) p))
 
 pub spurious-changes : (side : Side) (p : Party) → Changed side p (spuriousSpec side p .party)
 unfolding spuriousSpec
 spurious-changes side p =
     changed-by side p (spuriousSpec side p .party) (at Look p) ((sound side p ≡ true) × (isSleeping (stanceOf (p .step)) ≡ true))
-    (λ e. stepped side p Look looks (sound-attached side p (e .0)) (inr (sleeping-step (p .step) (e .1))))
+    (λ e. stepped side p Look looks (sound-attached side p (e .0)) (inr (sleeping-step (p .step) (e .1))) (awake-parts (p .step) (sleeping-step (p .step) (e .1))))
     (rouses-one p (sound side p) (isSleeping (stanceOf (p .step))) (reply (at Look p) GoesOn))
 
 pub timeout-changes : (side : Side) (p : Party) → Changed side p (timeoutSpec side p .party)
 unfolding timeoutSpec
 timeout-changes side p =
-    changed-by side p (timeoutSpec side p .party) (at Rest p) ((sound side p ≡ true) × (isSleeping (stanceOf (p .step)) ≡ true))
-    (λ e. stepped side p Rest rests (sound-attached side p (e .0)) (inr (sleeping-step (p .step) (e .1))))
-    (rouses-one p (sound side p) (isSleeping (stanceOf (p .step))) (reply (at Rest p) Timeout))
+    changed-by side p (timeoutSpec side p .party) (at (LastLook true) p) ((sound side p ≡ true) × (isSleeping (stanceOf (p .step)) ≡ true))
+    (λ e. stepped side p (LastLook true) glances (sound-attached side p (e .0)) (inr (sleeping-step (p .step) (e .1))) (awake-parts (p .step) (sleeping-step (p .step) (e .1))))
+    (rouses-one p (sound side p) (isSleeping (stanceOf (p .step))) (reply (at (LastLook true) p) GoesOn))
 
 pub seat-same : (side : Side) (b : Bench) → seat b side (partyOf b side) ≡ b
 seat-same Sender b = refl
@@ -159,20 +167,31 @@ seat-two Recorder b q = refl
 idle-room : (s : Step) (k : ℕ) → Idle s → HasRoom (phase s) k
 idle-room s k rests = tt
 idle-room s k looks = tt
+idle-room s k glances = tt
 idle-room s k closes = tt
 idle-room s k shuts = tt
 
 idle-since : (s : Step) (b n : ℕ) → Idle s → Since (phase s) b n
 idle-since s b n rests = tt
 idle-since s b n looks = tt
+idle-since s b n glances = tt
 idle-since s b n closes = tt
 idle-since s b n shuts = tt
 
 idle-free : (s : Step) → Idle s → T (free (phase s))
 idle-free s rests = tt
 idle-free s looks = tt
+idle-free s glances = tt
 idle-free s closes = tt
 idle-free s shuts = tt
+
+-- no call begins at the last look for a close
+idle-last : (s : Step) → Idle s → s ≡ LastLook false → ⊥
+idle-last s rests e = let z : _≡_ {A = ℕ} 0 1 = cc in omega arith
+idle-last s looks e = let z : _≡_ {A = ℕ} 0 1 = cc in omega arith
+idle-last s glances e = let z : _≡_ {A = ℕ} 0 1 = cc in omega arith
+idle-last s closes e = let z : _≡_ {A = ℕ} 0 1 = cc in omega arith
+idle-last s shuts e = let z : _≡_ {A = ℕ} 0 1 = cc in omega arith
 
 module _ (P S v : ℕ) (on : Bool) where
   -- a call of a side
@@ -203,6 +222,8 @@ module _ (P S v : ℕ) (on : Bool) where
                   empty = λ e.
                       let f : q .own .attached ≡ true = ap (λ (o : Own). o .attached) (b .own) ∙ b .attached in
                       absurd (let z : _≡_ {A = ℕ} 0 1 = cc in omega arith);
+                  over = λ e. b .over (sym (b .closed) ∙ e) (h .seat .over (sym (b .closed) ∙ e));
+                  heard = λ e. absurd (idle-last (q .step) (b .idle) e);
                 };
             since = idle-since (q .step) _ _ (b .idle);
             room = idle-room (q .step) _ (b .idle);

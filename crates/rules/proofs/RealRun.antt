@@ -106,6 +106,8 @@ module _ (r : List ℕ) (P S : ℕ) (on : Bool) (v : ℕ) (fresh : Fresh r P S o
               attached-bit = ap (bitOn (worth (attachMark Sender))) flags-are ∙ fresh-attached on Sender;
               in-place = λ e. absurd (let z : _≡_ {A = ℕ} 0 1 = cc in omega arith);
               empty = λ e. (refl, refl);
+              over = λ e. refl;
+              heard = λ e. absurd (let z : _≡_ {A = ℕ} 0 1 = cc in omega arith);
             };
         since = tt;
         room = tt;
@@ -122,6 +124,8 @@ module _ (r : List ℕ) (P S : ℕ) (on : Bool) (v : ℕ) (fresh : Fresh r P S o
               attached-bit = ap (bitOn (worth (attachMark Recorder))) flags-are ∙ fresh-attached on Recorder;
               in-place = λ e. absurd (let z : _≡_ {A = ℕ} 0 1 = cc in omega arith);
               empty = λ e. (refl, refl);
+              over = λ e. refl;
+              heard = λ e. absurd (let z : _≡_ {A = ℕ} 0 1 = cc in omega arith);
             };
         since = tt;
         room = tt;

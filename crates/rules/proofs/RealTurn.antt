@@ -18,7 +18,7 @@ use Rattle.types.specs.declared.Party.{Party}
 use Rattle.types.specs.declared.Fault.{Fault}
 use Rattle.types.specs.declared.Woke.{Woke}
 use Rattle.types.specs.declared.Step.{Step}
-use Rattle.types.specs.declared.Step.the-variants.{Rest, Look, Copy, Publish, Check, Raise, Wake, Gate, Epoch, Again, GateAgain, Wait, Asleep, CloseSet, CloseRaise, CloseWake, ShutSet, ShutRaiseNe, ShutWakeNe, ShutRaiseNf, ShutWakeNf}
+use Rattle.types.specs.declared.Step.the-variants.{Rest, Look, Copy, Publish, Check, Raise, Wake, Gate, Epoch, Again, GateAgain, Wait, Asleep, LastLook, CloseSet, CloseRaise, CloseWake, ShutSet, ShutRaiseNe, ShutWakeNe, ShutRaiseNf, ShutWakeNf}
 use Rattle.types.specs.declared.Move.{Move}
 use Rattle.types.specs.declared.Access.{Access}
 use Rattle.types.specs.declared.Access.the-variants.{WriteSlot, ReadSlot}
@@ -27,7 +27,7 @@ use Rattle.layout.specs.Header.{flagsAt, counterAt, bellAt}
 use Rattle.layout.specs.Slots.{headOf}
 use Rattle.layout.proofs.SizeLaws.{capacity-room, slot-least}
 use Rattle.rules.specs.Sides.{other, rings, sleepBell}
-use Rattle.rules.specs.Looks.{roomOf, wasBlocked, fitOf}
+use Rattle.rules.specs.Looks.{roomOf, wasBlocked, doorOf, fitOf}
 use Rattle.rules.specs.Steps.{copyMove}
 use Rattle.rules.specs.Take.{stanceOf, counterAfter, stepAfter, moveAt, moveOf}
 use Rattle.rules.specs.Next.{slotAccess, nextAt, nextSpec}
@@ -38,7 +38,7 @@ use Rattle.rules.specs.Bench.{seat, hears, wakened}
 use Rattle.rules.specs.Run.{Note, Trace, World, partyIn, takes, traced, rungOf}
 use Rattle.rules.specs.Phase.{copying, looking, phase}
 use Rattle.rules.proofs.Rooms.{asRoom, sender-sees, recorder-sees, sender-checks, recorder-checks}
-use Rattle.rules.proofs.Leads.{stopAt, Leads, Tells, leads}
+use Rattle.rules.proofs.Leads.{Leads, Tells, leads}
 use Rattle.rules.proofs.Does.{Does, does}
 use Rattle.rules.proofs.After.{bell-after, bell-by-small}
 use Rattle.rules.proofs.Kept.{header-in, fixed-kept, counts-own, counts-other, word-own, word-other}
@@ -71,7 +71,7 @@ module _ (P S v : ℕ) (on : Bool) (power-ok : powerOk P ≡ true) (slot-ok : sl
     checks Recorder = recorder-checks (capacity P) v (length (t .sent)) (length (t .delivered)) (queue .below) (queue .above) small
 
     pub tells-at : (own : Own) (c val : ℕ) → own ≡ sizes P S v on side → c ≡ plus 64 v (countOf side t) → (s : Step) → val ≡ valueOf r own (nextAt s side c)
-        → Tells own (roomIn P S v on side t) (roomIn P S v on (other side) t) (stopAt side (leAt 4 r flagsAt)) (leAt 4 r (bellAt (sleepBell side))) c val s
+        → Tells own (roomIn P S v on side t) (roomIn P S v on (other side) t) (doorOf side (leAt 4 r flagsAt)) (leAt 4 r (bellAt (sleepBell side))) c val s
     unfolding valueOf
     tells-at own c val o h Rest e = tt
     tells-at own c val o h Look e = rw (o, h, e ∙ words (other side)) (sees side)
@@ -86,6 +86,7 @@ module _ (P S v : ℕ) (on : Bool) (power-ok : powerOk P ≡ true) (slot-ok : sl
     tells-at own c val o h (GateAgain n) e = rw (o, e)
     tells-at own c val o h (Wait n) e = e
     tells-at own c val o h Asleep e = tt
+    tells-at own c val o h (LastLook q) e = rw (o, h, e ∙ words (other side)) (sees side)
     tells-at own c val o h CloseSet e = tt
     tells-at own c val o h CloseRaise e = tt
     tells-at own c val o h CloseWake e = tt
@@ -130,14 +131,17 @@ module _ (P S v : ℕ) (on : Bool) (power-ok : powerOk P ≡ true) (slot-ok : sl
     words : (side : Side) → leAt 8 r (counterAt side) ≡ plus 64 v (countOf side t)
     words s = real .sides s .word
 
+    -- what its value tells
+    pub tells-here : Tells (p .own) (roomIn P S v on side t) (roomIn P S v on (other side) t) (doorOf side (leAt 4 r flagsAt)) (leAt 4 r (bellAt (sleepBell side))) (p .counter) value (p .step)
+    tells-here = tells-at side r t (real .queue) words (p .own) (p .counter) value own-is counter-is (p .step) (ap (valueOf r (p .own)) access-is)
+
     -- where the turn leads
-    pub leads-here : Leads (roomIn P S v on side t) (roomIn P S v on (other side) t) (stopAt side (leAt 4 r flagsAt)) (p .blocking) (rings side on) (leAt 4 r (bellAt (sleepBell side))) (p .step) next-step
+    pub leads-here : Leads (roomIn P S v on side t) (roomIn P S v on (other side) t) (doorOf side (leAt 4 r flagsAt)) (p .blocking) (rings side on) (leAt 4 r (bellAt (sleepBell side))) (p .step) next-step
     unfolding moveOf
     leads-here =
-        subst (λ (o : Own). Leads (roomIn P S v on side t) (roomIn P S v on (other side) t) (stopAt side (leAt 4 r flagsAt)) (p .blocking) (rings (o .side) (o .notfull)) (leAt 4 r (bellAt (sleepBell side))) (p .step) next-step)
+        subst (λ (o : Own). Leads (roomIn P S v on side t) (roomIn P S v on (other side) t) (doorOf side (leAt 4 r flagsAt)) (p .blocking) (rings (o .side) (o .notfull)) (leAt 4 r (bellAt (sleepBell side))) (p .step) next-step)
         own-is
-        (leads (p .own) (roomIn P S v on side t) (roomIn P S v on (other side) t) (stopAt side (leAt 4 r flagsAt)) (leAt 4 r (bellAt (sleepBell side))) (p .counter) (p .blocking) (p .length) value (errorOf fault) (p .step)
-        (tells-at side r t (real .queue) words (p .own) (p .counter) value own-is counter-is (p .step) (ap (valueOf r (p .own)) access-is)))
+        (leads (p .own) (roomIn P S v on side t) (roomIn P S v on (other side) t) (doorOf side (leAt 4 r flagsAt)) (leAt 4 r (bellAt (sleepBell side))) (p .counter) (p .blocking) (p .length) value (errorOf fault) (p .step) tells-here)
 
     abbrev buffer : List ℕ
     buffer = bufferOf r (p .own) a (p .length) lent
@@ -213,7 +217,7 @@ module _ (P S v : ℕ) (on : Bool) (power-ok : powerOk P ≡ true) (slot-ok : sl
               word-own P S v on r p payload (real .fixed) t buffer side (p .step) a d counter-is (mine .word)
               ∙ ap (counterAfter (stanceOf (p .step))) counter-is
               ∙ counts-own P S v on r p payload (real .fixed) t buffer side (p .step) a d;
-          seat = seated-own P S v on r p payload (real .fixed) t buffer side (p .step) next-step a (attached-here w side payload lent fault g) d (mine .seat);
+          seat = seated-own P S v on r p payload (real .fixed) t buffer side _ _ _ _ _ (p .step) next-step a refl (attached-here w side payload lent fault g) d leads-here (mine .seat);
           since = since-own P S v on r p payload (real .fixed) t buffer side _ _ _ _ _ (p .step) next-step leads-here (mine .since);
           room = room-own P S v on power-ok slot-ok r p payload (real .fixed) t buffer (real .queue) side _ _ _ _ _ (p .step) next-step leads-here (mine .room);
           hand = hand-after;

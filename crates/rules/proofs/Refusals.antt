@@ -15,7 +15,7 @@ use Rattle.types.specs.declared.Reply.{Reply}
 use Rattle.types.specs.declared.Turned.{Turned}
 use Rattle.types.specs.declared.Fault.{Fault}
 use Rattle.types.specs.declared.Step.{Step}
-use Rattle.types.specs.declared.Step.the-variants.{Rest, Look, Copy, Publish, Check, Raise, Wake, Gate, Epoch, Again, GateAgain, Wait, Asleep, CloseSet, CloseRaise, CloseWake, ShutSet, ShutRaiseNe, ShutWakeNe, ShutRaiseNf, ShutWakeNf}
+use Rattle.types.specs.declared.Step.the-variants.{Rest, Look, Copy, Publish, Check, Raise, Wake, Gate, Epoch, Again, GateAgain, Wait, Asleep, LastLook, CloseSet, CloseRaise, CloseWake, ShutSet, ShutRaiseNe, ShutWakeNe, ShutRaiseNf, ShutWakeNf}
 use Rattle.types.specs.declared.Answer.{Answer}
 use Rattle.types.specs.declared.Answer.the-variants.{Done, InvalidMagic, UnsupportedVersion, InvalidHeaderSize, InvalidLayout, InvalidCapacity, InvalidSlotSize, CorruptIndices, CorruptSlot, Full, Empty, Closed, Shutdown, Timeout, WouldBlock, OutputTooSmall, AlreadyAttached, Syscall, PayloadTooLong, NotFullOff, BadCall, Nothing, Begun, GoesOn}
 use Rattle.words.proofs.Runs.{and-right}
@@ -201,6 +201,7 @@ resting-step (Again n) e = absurd (let z : _≡_ {A = ℕ} 0 1 = cc in omega ari
 resting-step (GateAgain n) e = absurd (let z : _≡_ {A = ℕ} 0 1 = cc in omega arith)
 resting-step (Wait n) e = absurd (let z : _≡_ {A = ℕ} 0 1 = cc in omega arith)
 resting-step Asleep e = absurd (let z : _≡_ {A = ℕ} 0 1 = cc in omega arith)
+resting-step (LastLook c) e = absurd (let z : _≡_ {A = ℕ} 0 1 = cc in omega arith)
 resting-step CloseSet e = absurd (let z : _≡_ {A = ℕ} 0 1 = cc in omega arith)
 resting-step CloseRaise e = absurd (let z : _≡_ {A = ℕ} 0 1 = cc in omega arith)
 resting-step CloseWake e = absurd (let z : _≡_ {A = ℕ} 0 1 = cc in omega arith)
@@ -241,7 +242,7 @@ given-leaves (pop-bad {p} {b} {l} h) = (tt, party-of (bad-begin p (pop-tests p b
 given-leaves (close-bad {side} {p} h) = (tt, party-of (bad-begin p (own-tests side p (p .closed) CloseSet) h))
 given-leaves (shutdown-bad {side} {p} h) = (tt, party-of (bad-begin p (own-tests side p false (ShutSet false)) h))
 given-leaves (spurious-bad {side} {p} h) = (tt, party-of (bad-rouse side p (reply (at Look p) GoesOn) h))
-given-leaves (timeout-bad {side} {p} h) = (tt, party-of (bad-rouse side p (reply (at Rest p) Timeout) h))
+given-leaves (timeout-bad {side} {p} h) = (tt, party-of (bad-rouse side p (reply (at (LastLook true) p) GoesOn) h))
 given-leaves (turn-bad {side} {r} {p} {i} {o} {f} h) = turn-refused side r p i o f h
 given-leaves (push-closed {p} {b} {t} {l} h c) = (tt, closed-rests Sender p h (closed-begin p (push-tests p b t l) h c))
 given-leaves (pop-closed {p} {b} {l} h c) = (tt, closed-rests Recorder p h (closed-begin p (pop-tests p b l) h c))
@@ -253,9 +254,9 @@ given-leaves (pop-begun h c) = tt
 given-leaves (close-begun h c) = tt
 given-leaves (shutdown-begun h) = tt
 given-leaves (spurious-idle {side} {p} h s) = (tt, party-of (idle-rouse side p (reply (at Look p) GoesOn) h s))
-given-leaves (timeout-idle {side} {p} h s) = (tt, party-of (idle-rouse side p (reply (at Rest p) Timeout) h s))
+given-leaves (timeout-idle {side} {p} h s) = (tt, party-of (idle-rouse side p (reply (at (LastLook true) p) GoesOn) h s))
 given-leaves (spurious-taken h s) = tt
-given-leaves (timeout-taken {side} {p} h s) = (tt, ap (λ (x : Reply). x .party .step) (taken-rouse side p (reply (at Rest p) Timeout) h s))
+given-leaves (timeout-taken h s) = tt
 given-leaves (turn-taken {side} {r} {p} {i} {o} {f} h e) = ends-leaves side r p i o f h e
 
 pub leaves-all : LeavesAll

@@ -5,10 +5,11 @@ use Prim.Native.Nat.{ℕ, zero, suc, _+_, _≤_}
 use native.Mathlib.Omega.{arith}
 use Rattle.types.specs.declared.Side.{Side}
 use Rattle.types.specs.declared.Side.the-variants.{Sender, Recorder}
+use Rattle.types.specs.declared.Door.{Door}
 use Rattle.types.specs.declared.Step.{Step}
-use Rattle.types.specs.declared.Step.the-variants.{Rest, Look, Copy, Publish, Check, Raise, Wake, Gate, Epoch, Again, GateAgain, Wait, Asleep, CloseSet, CloseRaise, CloseWake, ShutSet, ShutRaiseNe, ShutWakeNe, ShutRaiseNf, ShutWakeNf}
+use Rattle.types.specs.declared.Step.the-variants.{Rest, Look, Copy, Publish, Check, Raise, Wake, Gate, Epoch, Again, GateAgain, Wait, Asleep, LastLook, CloseSet, CloseRaise, CloseWake, ShutSet, ShutRaiseNe, ShutWakeNe, ShutRaiseNf, ShutWakeNf}
 use Rattle.rules.specs.Stretch.{holdsEpoch}
-use Rattle.rules.proofs.Leads.{Leads, idles, finds, blocks, gives-up, copies, spills, tells, stores, owes, passes, raises, wakes, enters, stops, reads, finds-again, stays, enters-again, stops-again, returns, ends, dreams, closes, closes-alone, close-raises, close-wakes, shuts, shut-raises, shut-wakes, shut-raises-again, shut-wakes-again, sleeps as falls-asleep}
+use Rattle.rules.proofs.Leads.{Leads, idles, finds, blocks, gives-up, copies, spills, tells, stores, owes, passes, raises, wakes, enters, stops, reads, finds-again, stays, enters-again, stops-again, returns, ends, dreams, glances, glances-again, times-out, finds-last, finds-none, closes, closes-alone, close-raises, close-wakes, shuts, shut-raises, shut-wakes, shut-raises-again, shut-wakes-again, sleeps as falls-asleep}
 use Rattle.rules.proofs.Heard.{ifSender, rungBy, roomBy}
 use Rattle.rules.proofs.Own.{waitsOn}
 
@@ -38,6 +39,7 @@ owing side (Again e) k = spare k
 owing side (GateAgain e) k = spare k
 owing side (Wait e) k = spare k
 owing side Asleep k = spare k
+owing side (LastLook c) k = spare k
 owing side CloseSet k = suc (spare k)
 owing side CloseRaise k = suc (spare k)
 owing side CloseWake k = spare k
@@ -76,6 +78,7 @@ owing-small side (Again e) k = omega (arith, spare-small k)
 owing-small side (GateAgain e) k = omega (arith, spare-small k)
 owing-small side (Wait e) k = omega (arith, spare-small k)
 owing-small side Asleep k = omega (arith, spare-small k)
+owing-small side (LastLook c) k = omega (arith, spare-small k)
 owing-small side CloseSet k = omega (arith, spare-small k)
 owing-small side CloseRaise k = omega (arith, spare-small k)
 owing-small side CloseWake k = omega (arith, spare-small k)
@@ -88,7 +91,7 @@ owing-small Recorder (ShutRaiseNf c f) k = omega (arith, spare-small k)
 owing-small side (ShutWakeNf c f) k = omega (arith, spare-small k)
 
 -- a turn of the side that rings pays for each raise
-pub pays : (side : Side) (k x : ℕ) (z m r : Bool) (b : ℕ) (s next : Step) → Leads k x z m r b s next → (n : ℕ) → rungBy side s n + owing side next (roomBy s x) ≤ n + owing side s x
+pub pays : (side : Side) (k x : ℕ) (z : Door) (m r : Bool) (b : ℕ) (s next : Step) → Leads k x z m r b s next → (n : ℕ) → rungBy side s n + owing side next (roomBy s x) ≤ n + owing side s x
 pays side k x z m r b s next idles n = omega arith
 pays side k x z m r b s next (finds h) n = omega arith
 pays side k x z m r b s next (blocks h q) n = omega arith
@@ -112,6 +115,11 @@ pays side k x z m r b s next (falls-asleep h) n = omega arith
 pays side k x z m r b s next returns n = omega arith
 pays side k x z m r b s next ends n = omega arith
 pays side k x z m r b s next dreams n = omega arith
+pays side k x z m r b s next (glances h) n = omega arith
+pays side k x z m r b s next (glances-again h) n = omega arith
+pays side k x z m r b s next times-out n = omega arith
+pays side k x z m r b s next (finds-last h) n = omega arith
+pays side k x z m r b s next (finds-none h) n = omega arith
 pays side k x z m r b s next (closes h) n = omega arith
 pays side k x z m r b s next (closes-alone h) n = omega arith
 pays side k x z m r b s next close-raises n = omega arith
@@ -127,7 +135,7 @@ pays Sender k x z m r b s next shut-wakes-again n = omega arith
 pays Recorder k x z m r b s next shut-wakes-again n = omega arith
 
 -- a turn of the waiter's own: it counts anew at its epoch, and from there on it changes nothing
-pub holds-on : (side : Side) (k x : ℕ) (z m r : Bool) (b : ℕ) (s next : Step) → Leads k x z m r b s next → (u : Step) (n n′ k′ more : ℕ)
+pub holds-on : (side : Side) (k x : ℕ) (z : Door) (m r : Bool) (b : ℕ) (s next : Step) → Leads k x z m r b s next → (u : Step) (n n′ k′ more : ℕ)
     → (s ≡ Epoch → n′ ≡ 0) → (waitsOn s ≡ true → (n′ ≡ n) × (k′ ≡ k)) → (holdsEpoch s ≡ true → n + owing side u k ≤ 2 + more)
     → holdsEpoch next ≡ true → n′ + owing side u k′ ≤ 2 + more
 holds-on side k x z m r b s next idles u n n′ k′ more zeroed still y o = absurd (let z : _≡_ {A = ℕ} 0 1 = cc in omega arith)
@@ -153,6 +161,11 @@ holds-on side k x z m r b s next (falls-asleep h) u n n′ k′ more zeroed stil
 holds-on side k x z m r b s next returns u n n′ k′ more zeroed still y o = absurd (let z : _≡_ {A = ℕ} 0 1 = cc in omega arith)
 holds-on side k x z m r b s next ends u n n′ k′ more zeroed still y o = absurd (let z : _≡_ {A = ℕ} 0 1 = cc in omega arith)
 holds-on side k x z m r b s next dreams u n n′ k′ more zeroed still y o = absurd (let z : _≡_ {A = ℕ} 0 1 = cc in omega arith)
+holds-on side k x z m r b s next (glances h) u n n′ k′ more zeroed still y o = absurd (let z : _≡_ {A = ℕ} 0 1 = cc in omega arith)
+holds-on side k x z m r b s next (glances-again h) u n n′ k′ more zeroed still y o = absurd (let z : _≡_ {A = ℕ} 0 1 = cc in omega arith)
+holds-on side k x z m r b s next times-out u n n′ k′ more zeroed still y o = absurd (let z : _≡_ {A = ℕ} 0 1 = cc in omega arith)
+holds-on side k x z m r b s next (finds-last h) u n n′ k′ more zeroed still y o = absurd (let z : _≡_ {A = ℕ} 0 1 = cc in omega arith)
+holds-on side k x z m r b s next (finds-none h) u n n′ k′ more zeroed still y o = absurd (let z : _≡_ {A = ℕ} 0 1 = cc in omega arith)
 holds-on side k x z m r b s next (closes h) u n n′ k′ more zeroed still y o = absurd (let z : _≡_ {A = ℕ} 0 1 = cc in omega arith)
 holds-on side k x z m r b s next (closes-alone h) u n n′ k′ more zeroed still y o = absurd (let z : _≡_ {A = ℕ} 0 1 = cc in omega arith)
 holds-on side k x z m r b s next close-raises u n n′ k′ more zeroed still y o = absurd (let z : _≡_ {A = ℕ} 0 1 = cc in omega arith)

@@ -2,7 +2,7 @@
 use mathlib.Core.Path.{_≡_, refl, sym, ap, _∙_}
 use mathlib.Core.Bool.{Bool, true, false, _&&_}
 use mathlib.Core.List.{List}
-use mathlib.Core.Logic.{_⊎_, inl, inr}
+use mathlib.Core.Logic.{_⊎_, inl, inr, ⊎-elim}
 use Prim.Native.Nat.{ℕ, _+_, _%_, _^_}
 use native.Mathlib.Omega.{arith}
 use native.Mathlib.Nat.{mod-add-mod, mod-mod, add-zero, add-assoc}
@@ -16,23 +16,29 @@ use Rattle.types.specs.declared.Bell.the-variants.{NotEmpty, NotFull}
 use Rattle.types.specs.declared.Own.{Own}
 use Rattle.types.specs.declared.Party.{Party}
 use Rattle.types.specs.declared.Woke.{Woke}
+use Rattle.types.specs.declared.Mark.the-variants.{Shutdown as ShutMark}
+use Rattle.types.specs.declared.Door.{Door}
+use Rattle.types.specs.declared.Door.the-variants.{Shut, Left, Open}
 use Rattle.types.specs.declared.Step.{Step}
-use Rattle.types.specs.declared.Step.the-variants.{Rest, Look, Copy, Publish, Check, Raise, Wake, Gate, Epoch, Again, GateAgain, Wait, Asleep, CloseSet, CloseRaise, CloseWake, ShutSet, ShutRaiseNe, ShutWakeNe, ShutRaiseNf, ShutWakeNf}
+use Rattle.types.specs.declared.Step.the-variants.{Rest, Look, Copy, Publish, Check, Raise, Wake, Gate, Epoch, Again, GateAgain, Wait, Asleep, LastLook, CloseSet, CloseRaise, CloseWake, ShutSet, ShutRaiseNe, ShutWakeNe, ShutRaiseNf, ShutWakeNf}
 use Rattle.types.specs.declared.Access.{Access}
+use Rattle.layout.specs.Flags.{worth, bitOn, closeMark}
 use Rattle.layout.specs.Header.{flagsAt, bellAt}
 use Rattle.rules.specs.Sides.{other, sleepBell}
+use Rattle.rules.specs.Looks.{doorOf}
 use Rattle.rules.specs.Take.{stanceOf, counterAfter, closedAfter}
 use Rattle.rules.specs.Next.{nextAt}
 use Rattle.rules.specs.Calls.{isSleeping, at}
 use Rattle.rules.specs.Access.{leavesOf}
 use Rattle.rules.specs.Bench.{hears, wakened}
 use Rattle.rules.specs.Run.{Trace, traced, rungOf}
-use Rattle.rules.specs.Phase.{Phase, resting, looking, copying, publishing, telling, asking, armed, poised, waits, sleeps as asleep, leaving, phase}
+use Rattle.rules.specs.Phase.{Phase, resting, looking, copying, publishing, telling, asking, armed, poised, waits, sleeps as asleep, glancing, leaving, phase}
 use Rattle.rules.proofs.After.{bellBy, bell-after}
 use Rattle.rules.proofs.Does.{Does, nothing, looks, flags, reads as epoch, writes, takes, stores as store, raises as ring, closes as close, shuts as shut, waits as wait, wakes as wake}
-use Rattle.rules.proofs.Leads.{Leads, idles, finds, blocks, gives-up, copies, spills, tells, stores, owes, passes, raises, wakes, enters, stops, reads, finds-again, stays, enters-again, stops-again, sleeps, returns, ends, dreams, closes, closes-alone, close-raises, close-wakes, shuts, shut-raises, shut-wakes, shut-raises-again, shut-wakes-again}
-use Rattle.rules.proofs.Kept.{header-in, flags-are, attach-bit, close-bit-own, close-bit-other, counts-own, counts-other}
-use Rattle.rules.proofs.Real.{Since, Seated, Fixed}
+use Rattle.rules.proofs.Leads.{Leads, idles, finds, blocks, gives-up, copies, spills, tells, stores, owes, passes, raises, wakes, enters, stops, reads, finds-again, stays, enters-again, stops-again, sleeps, returns, ends, dreams, glances, glances-again, times-out, finds-last, finds-none, closes, closes-alone, close-raises, close-wakes, shuts, shut-raises, shut-wakes, shut-raises-again, shut-wakes-again}
+use Rattle.rules.proofs.Parting.{parts-on, glances-left, closed-by}
+use Rattle.rules.proofs.Kept.{header-in, flag-up, flags-are, attach-bit, close-bit-own, close-bit-other, counts-own, counts-other}
+use Rattle.rules.proofs.Real.{parts, Since, Seated, Fixed}
 
 -- a party after a turn at s that leads to the next step
 abbrev pub moved : Party → Step → Step → Party
@@ -69,6 +75,7 @@ sleeping-step (Again n) e = absurd (let z : _≡_ {A = ℕ} 0 1 = cc in omega ar
 sleeping-step (GateAgain n) e = absurd (let z : _≡_ {A = ℕ} 0 1 = cc in omega arith)
 sleeping-step (Wait n) e = absurd (let z : _≡_ {A = ℕ} 0 1 = cc in omega arith)
 sleeping-step Asleep e = refl
+sleeping-step (LastLook c) e = absurd (let z : _≡_ {A = ℕ} 0 1 = cc in omega arith)
 sleeping-step CloseSet e = absurd (let z : _≡_ {A = ℕ} 0 1 = cc in omega arith)
 sleeping-step CloseRaise e = absurd (let z : _≡_ {A = ℕ} 0 1 = cc in omega arith)
 sleeping-step CloseWake e = absurd (let z : _≡_ {A = ℕ} 0 1 = cc in omega arith)
@@ -92,6 +99,16 @@ roused side q w = by (hears side w && isSleeping (stanceOf (q .step))) refl
           step = inr (sleeping-step (q .step) (and-right (hears side w) (isSleeping (stanceOf (q .step))) e), refl);
         }
     by false e = record { own = refl; closed = refl; counter = refl; blocking = refl; step = inl refl }
+
+-- the other's close alone
+left-bit : (side : Side) (f : ℕ) → doorOf side f ≡ Left → bitOn (worth (closeMark (other side))) f ≡ true
+unfolding doorOf
+left-bit side f e = by (bitOn (worth ShutMark) f) (bitOn (worth (closeMark (other side))) f) e
+  where
+    by : (a c : Bool) → pick a Shut (pick c Left Open) ≡ Left → c ≡ true
+    by true c e = absurd (let z : _≡_ {A = ℕ} 0 1 = cc in omega arith)
+    by false true e = refl
+    by false false e = absurd (let z : _≡_ {A = ℕ} 0 1 = cc in omega arith)
 
 -- what holds of the step as it was, and of a look, holds of a roused party's
 pub roused-elim : {q r : Party} → Roused q r → (F : Step → Type 0) → F (q .step) → (q .step ≡ Asleep → F Look) → F (r .step)
@@ -118,6 +135,7 @@ since-raised (armed e) bell n h = one-more e bell n h
 since-raised (poised e) bell n h = one-more e bell n h
 since-raised (waits e) bell n h = one-more e bell n h
 since-raised asleep bell n h = tt
+since-raised glancing bell n h = tt
 since-raised leaving bell n h = tt
 
 module _ (P S v : ℕ) (on : Bool) (r : List ℕ) (p : Party) (payload : List ℕ) (fixed : Fixed P S v on r) (t : Trace) (buffer : List ℕ) where
@@ -127,14 +145,16 @@ module _ (P S v : ℕ) (on : Bool) (r : List ℕ) (p : Party) (payload : List �
   abbrev told : Access → Trace
   told a = traced a p payload buffer t
 
-  pub seated-own : (side : Side) (s next : Step) (a : Access) → p .own .attached ≡ true → Does side (p .counter) s a
-      → Seated P S v on side p t (leAt 4 r flagsAt) → Seated P S v on side (moved p s next) (told a) (leAt 4 (left a) flagsAt)
-  seated-own side s next a here d h =
+  pub seated-own : (side : Side) (k x : ℕ) (m rg : Bool) (b : ℕ) (s next : Step) (a : Access) → p .step ≡ s → p .own .attached ≡ true → Does side (p .counter) s a
+      → Leads k x (doorOf side (leAt 4 r flagsAt)) m rg b s next → Seated P S v on side p t (leAt 4 r flagsAt) → Seated P S v on side (moved p s next) (told a) (leAt 4 (left a) flagsAt)
+  seated-own side k x m rg b s next a at here d leads h =
       rw (flags-are P S v on r p payload fixed a) record {
         closed-bit = close-bit-own side (p .counter) s a (leAt 4 r flagsAt) (fixed .small) d ∙ ap (closedAfter (stanceOf s)) (h .closed-bit);
         attached-bit = attach-bit side side (p .counter) s a (leAt 4 r flagsAt) (fixed .small) d ∙ h .attached-bit;
         in-place = λ e. ((h .in-place e) .0, ap (counterAfter (stanceOf s)) ((h .in-place e) .1) ∙ counts-own P S v on r p payload fixed t buffer side s a d);
         empty = λ e. absurd (let z : _≡_ {A = ℕ} 0 1 = cc in omega arith);
+        over = λ e. parts-on k x (doorOf side (leAt 4 r flagsAt)) m rg b s next leads (⊎-elim (λ q. sym (ap (λ (u : Step). parts (phase u)) at) ∙ h .over q) (λ q. q) (closed-by side (p .counter) s a d (p .closed) e));
+        heard = λ e. flag-up a (leAt 4 r flagsAt) (fixed .small) (closeMark (other side)) (left-bit side (leAt 4 r flagsAt) (glances-left k x (doorOf side (leAt 4 r flagsAt)) m rg b s next leads e));
       }
 
   pub seated-other : (side : Side) (s : Step) (a : Access) (q q′ : Party) → Roused q q′ → Does side (p .counter) s a
@@ -149,6 +169,12 @@ module _ (P S v : ℕ) (on : Bool) (r : List ℕ) (p : Party) (payload : List �
         empty = λ e.
             let k = h .empty (ap (λ (x : Own). x .attached) (sym (o .own)) ∙ e) in
             (roused-elim o (λ u. u ≡ Rest) (k .0) (λ z. absurd (let y : _≡_ {A = ℕ} 0 1 = cc in omega arith)), o .closed ∙ k .1);
+        over = λ e.
+            let k = h .over (sym (o .closed) ∙ e) in
+            roused-elim o (λ u. parts (phase u) ≡ true) k (λ z. absurd (let y = sym k ∙ ap (λ (u : Step). parts (phase u)) z in let x : _≡_ {A = ℕ} 0 1 = cc in omega arith));
+        heard = λ e.
+            flag-up a (leAt 4 r flagsAt) (fixed .small) (closeMark (other (other side)))
+            (roused-elim o (λ u. u ≡ LastLook false → bitOn (worth (closeMark (other (other side)))) (leAt 4 r flagsAt) ≡ true) (h .heard) (λ z w. absurd (let y : _≡_ {A = ℕ} 0 1 = cc in omega arith)) e);
       }
 
   -- the own bell after an access that does not raise it
@@ -164,7 +190,7 @@ module _ (P S v : ℕ) (on : Bool) (r : List ℕ) (p : Party) (payload : List �
   rung-anew Sender = refl
   rung-anew Recorder = refl
 
-  pub since-own : (side : Side) (k x : ℕ) (z m rg : Bool) (s next : Step) → Leads k x z m rg (leAt 4 r (bellAt (sleepBell side))) s next
+  pub since-own : (side : Side) (k x : ℕ) (z : Door) (m rg : Bool) (s next : Step) → Leads k x z m rg (leAt 4 r (bellAt (sleepBell side))) s next
       → Since (phase s) (leAt 4 r (bellAt (sleepBell side))) (rungOf side t)
       → Since (phase next) (leAt 4 (left (nextAt s side (p .counter))) (bellAt (sleepBell side))) (rungOf side (told (nextAt s side (p .counter))))
   since-own side k x z m rg s next idles y = tt
@@ -190,6 +216,11 @@ module _ (P S v : ℕ) (on : Bool) (r : List ℕ) (p : Party) (payload : List �
   since-own side k x z m rg s next returns y = tt
   since-own side k x z m rg s next ends y = tt
   since-own side k x z m rg s next dreams y = tt
+  since-own side k x z m rg s next (glances h) y = tt
+  since-own side k x z m rg s next (glances-again h) y = tt
+  since-own side k x z m rg s next times-out y = tt
+  since-own side k x z m rg s next (finds-last h) y = tt
+  since-own side k x z m rg s next (finds-none h) y = tt
   since-own side k x z m rg s next (closes h) y = tt
   since-own side k x z m rg s next (closes-alone h) y = tt
   since-own side k x z m rg s next close-raises y = tt

@@ -16,8 +16,8 @@ use Rattle.types.specs.declared.Fault.{Fault}
 use Rattle.types.specs.declared.Fault.the-variants.{Fine, Error}
 use Rattle.types.specs.declared.Event.the-variants.{Turn, Failing, Spurious, TimeOut, Push, Pop, Close, Shutdown}
 use Rattle.types.specs.declared.Step.{Step}
-use Rattle.types.specs.declared.Step.the-variants.{Rest, Look, Wait, Asleep, CloseSet, ShutSet}
-use Rattle.types.specs.declared.Answer.the-variants.{GoesOn, Timeout}
+use Rattle.types.specs.declared.Step.the-variants.{Rest, Look, Wait, Asleep, LastLook, CloseSet, ShutSet}
+use Rattle.types.specs.declared.Answer.the-variants.{GoesOn}
 use Rattle.layout.specs.Limits.{powerOk, slotOk, payloadCapacity}
 use Rattle.layout.specs.Create.{created}
 use Rattle.layout.specs.Attach.{attachAnswer, attachReply, attachLeaves, attached}
@@ -34,7 +34,7 @@ use Rattle.rules.proofs.Seats.{sleeping-step}
 use Rattle.rules.proofs.Taken.{turnWorld, turn-refused}
 use Rattle.rules.proofs.RealTurn.{turn-is-after}
 use Rattle.rules.proofs.RealAttach.{bit-clear, attachWorld}
-use Rattle.rules.proofs.RealCalls.{Idle, rests, looks, closes, shuts, Changed, begins-one, rouses-one, seat-same, seat-one, seat-two, seated, push-changes, pop-changes, close-changes, shut-changes, spurious-changes, timeout-changes}
+use Rattle.rules.proofs.RealCalls.{Idle, rests, looks, glances, closes, shuts, Changed, begins-one, rouses-one, seat-same, seat-one, seat-two, seated, push-changes, pop-changes, close-changes, shut-changes, spurious-changes, timeout-changes}
 use Rattle.rules.proofs.RealRun.{power-fits, slot-fits, real-start, real-happens}
 use Rattle.rules.proofs.Rings.{owing}
 use Rattle.rules.proofs.Listening.{RungAt, rung-mine, rung-theirs}
@@ -43,6 +43,7 @@ use Rattle.rules.proofs.Real.{roomIn, Real}
 idle-holds : (s : Step) → Idle s → holdsEpoch s ≡ true → ⊥
 idle-holds s rests h = let z : _≡_ {A = ℕ} 0 1 = cc in omega arith
 idle-holds s looks h = let z : _≡_ {A = ℕ} 0 1 = cc in omega arith
+idle-holds s glances h = let z : _≡_ {A = ℕ} 0 1 = cc in omega arith
 idle-holds s closes h = let z : _≡_ {A = ℕ} 0 1 = cc in omega arith
 idle-holds s shuts h = let z : _≡_ {A = ℕ} 0 1 = cc in omega arith
 
@@ -60,28 +61,28 @@ from side p q more s e f k = rw e (f k)
 push-adds : (p : Party) (b : Bool) (t l : ℕ) → Adds Sender p (pushSpec p b t l .party) 0
 unfolding pushSpec
 push-adds p b t l =
-    adds Sender p (named b t l p) (pushSpec p b t l .party) 0 ((ready Sender p ≡ true) × ((b && not (p .own .notfull)) ≡ false))
+    adds Sender p (named b t l p) (pushSpec p b t l .party) 0 ((ready Sender p ≡ true) × ((p .closed ≡ false) × ((b && not (p .own .notfull)) ≡ false)))
     (λ e. from Sender p (named b t l p) 0 Rest (ready-rests Sender p (e .0)) (λ k. omega arith))
     (begins-one p (ready Sender p) (p .closed) (b && not (p .own .notfull)) (not (leb l (payloadCapacity (p .own .slot)))) (named b t l p))
 
 pop-adds : (p : Party) (b : Bool) (l : ℕ) → Adds Recorder p (popSpec p b l .party) 0
 unfolding popSpec
 pop-adds p b l =
-    adds Recorder p (named b 0 l p) (popSpec p b l .party) 0 ((ready Recorder p ≡ true) × (_≡_ {A = Bool} false false))
+    adds Recorder p (named b 0 l p) (popSpec p b l .party) 0 ((ready Recorder p ≡ true) × ((p .closed ≡ false) × (_≡_ {A = Bool} false false)))
     (λ e. from Recorder p (named b 0 l p) 0 Rest (ready-rests Recorder p (e .0)) (λ k. omega arith))
     (begins-one p (ready Recorder p) (p .closed) false false (named b 0 l p))
 
 close-adds : (side : Side) (p : Party) → Adds side p (closeSpec side p .party) 1
 unfolding closeSpec
 close-adds side p =
-    adds side p (at CloseSet p) (closeSpec side p .party) 1 ((ready side p ≡ true) × (_≡_ {A = Bool} false false))
+    adds side p (at CloseSet p) (closeSpec side p .party) 1 ((ready side p ≡ true) × ((p .closed ≡ false) × (_≡_ {A = Bool} false false)))
     (λ e. from side p (at CloseSet p) 1 Rest (ready-rests side p (e .0)) (λ k. omega arith))
     (begins-one p (ready side p) (p .closed) false false (at CloseSet p))
 
 shut-adds : (side : Side) (p : Party) → Adds side p (shutSpec side p .party) 1
 unfolding shutSpec
 shut-adds side p =
-    adds side p (at (ShutSet false) p) (shutSpec side p .party) 1 ((ready side p ≡ true) × (_≡_ {A = Bool} false false))
+    adds side p (at (ShutSet false) p) (shutSpec side p .party) 1 ((ready side p ≡ true) × ((_≡_ {A = Bool} false false) × (_≡_ {A = Bool} false false)))
     (λ e. from side p (at (ShutSet false) p) 1 Rest (ready-rests side p (e .0)) (λ k. omega arith))
     (begins-one p (ready side p) false false false (at (ShutSet false) p))
 
@@ -95,9 +96,9 @@ spurious-adds side p =
 timeout-adds : (side : Side) (p : Party) → Adds side p (timeoutSpec side p .party) 0
 unfolding timeoutSpec
 timeout-adds side p =
-    adds side p (at Rest p) (timeoutSpec side p .party) 0 ((sound side p ≡ true) × (isSleeping (stanceOf (p .step)) ≡ true))
-    (λ e. from side p (at Rest p) 0 Asleep (sleeping-step (p .step) (e .1)) (λ k. omega arith))
-    (rouses-one p (sound side p) (isSleeping (stanceOf (p .step))) (reply (at Rest p) Timeout))
+    adds side p (at (LastLook true) p) (timeoutSpec side p .party) 0 ((sound side p ≡ true) × (isSleeping (stanceOf (p .step)) ≡ true))
+    (λ e. from side p (at (LastLook true) p) 0 Asleep (sleeping-step (p .step) (e .1)) (λ k. omega arith))
+    (rouses-one p (sound side p) (isSleeping (stanceOf (p .step))) (reply (at (LastLook true) p) GoesOn))
 
 module _ (P S v : ℕ) (on : Bool) where
   -- a call of the waiter's leaves it with no epoch; one of the other's adds what it owes

@@ -21,8 +21,8 @@ use Rattle.types.specs.declared.Stance.the-variants.{Resting, Sleeping, Copying
 use Rattle.types.specs.declared.Fault.{Fault}
 use Rattle.types.specs.declared.Fault.the-variants.{Fine, Error}
 use Rattle.types.specs.declared.Event.the-variants.{Turn, Failing, Spurious, TimeOut, Push, Pop, Close, Shutdown}
-use Rattle.types.specs.declared.Answer.the-variants.{GoesOn, Timeout}
-use Rattle.types.specs.declared.Step.the-variants.{Rest, Look, CloseSet, ShutSet}
+use Rattle.types.specs.declared.Answer.the-variants.{GoesOn}
+use Rattle.types.specs.declared.Step.the-variants.{Look, LastLook, CloseSet, ShutSet}
 use Rattle.layout.specs.Limits.{powerOk, slotOk, payloadCapacity, totalBytes}
 use Rattle.layout.specs.Attach.{attachAnswer, attachReply, attached}
 use Rattle.rules.specs.Sides.{other, sameSide}
@@ -111,7 +111,7 @@ sized-happens (plays (Turn side) i o) w h = sized-turn w side i o Fine h
 sized-happens (plays (Failing side e) i o) w h = sized-turn w side i o (Error e) h
 sized-happens (plays (Spurious Sender) i o) w h = let p = w .bench .sender in roused-fits p (sound Sender p) (isSleeping (stanceOf (p .step))) (reply (at Look p) GoesOn) h h
 sized-happens (plays (Spurious Recorder) i o) w h = h
-sized-happens (plays (TimeOut Sender) i o) w h = let p = w .bench .sender in roused-fits p (sound Sender p) (isSleeping (stanceOf (p .step))) (reply (at Rest p) Timeout) h h
+sized-happens (plays (TimeOut Sender) i o) w h = let p = w .bench .sender in roused-fits p (sound Sender p) (isSleeping (stanceOf (p .step))) (reply (at (LastLook true) p) GoesOn) h h
 sized-happens (plays (TimeOut Recorder) i o) w h = h
 sized-happens (plays (Push b t l) i o) w h =
     let p = w .bench .sender in

@@ -13,7 +13,7 @@ use Rattle.types.specs.declared.Own.{Own}
 use Rattle.types.specs.declared.Party.{Party}
 use Rattle.types.specs.declared.Fault.{Fault}
 use Rattle.types.specs.declared.Step.{Step}
-use Rattle.types.specs.declared.Step.the-variants.{Rest, Look, Copy, Publish, Check, Raise, Wake, Gate, Epoch, Again, GateAgain, Wait, Asleep, CloseSet, CloseRaise, CloseWake, ShutSet, ShutRaiseNe, ShutWakeNe, ShutRaiseNf, ShutWakeNf}
+use Rattle.types.specs.declared.Step.the-variants.{Rest, Look, Copy, Publish, Check, Raise, Wake, Gate, Epoch, Again, GateAgain, Wait, Asleep, LastLook, CloseSet, CloseRaise, CloseWake, ShutSet, ShutRaiseNe, ShutWakeNe, ShutRaiseNf, ShutWakeNf}
 use Rattle.layout.specs.Limits.{payloadCapacity}
 use Rattle.rules.specs.Next.{nextAt, nextSpec}
 use Rattle.rules.specs.Access.{readOut, valueOf, leavesOf, bufferOf}
@@ -37,6 +37,7 @@ bytes-are n payload side (Again e) = refl
 bytes-are n payload side (GateAgain e) = refl
 bytes-are n payload side (Wait e) = refl
 bytes-are n payload side Asleep = refl
+bytes-are n payload side (LastLook c) = refl
 bytes-are n payload side CloseSet = refl
 bytes-are n payload side CloseRaise = refl
 bytes-are n payload side CloseWake = refl
@@ -61,6 +62,7 @@ place-is own p side (Again e) o q = refl
 place-is own p side (GateAgain e) o q = refl
 place-is own p side (Wait e) o q = refl
 place-is own p side Asleep o q = refl
+place-is own p side (LastLook c) o q = refl
 place-is own p side CloseSet o q = refl
 place-is own p side CloseRaise o q = refl
 place-is own p side CloseWake o q = refl
@@ -87,6 +89,7 @@ value-is r p side (Again e) = refl
 value-is r p side (GateAgain e) = refl
 value-is r p side (Wait e) = refl
 value-is r p side Asleep = refl
+value-is r p side (LastLook c) = refl
 value-is r p side CloseSet = refl
 value-is r p side CloseRaise = refl
 value-is r p side CloseWake = refl
@@ -112,6 +115,7 @@ given-is r s p buffer side (Again e) h = refl
 given-is r s p buffer side (GateAgain e) h = refl
 given-is r s p buffer side (Wait e) h = refl
 given-is r s p buffer side Asleep h = refl
+given-is r s p buffer side (LastLook c) h = refl
 given-is r s p buffer side CloseSet h = refl
 given-is r s p buffer side CloseRaise h = refl
 given-is r s p buffer side CloseWake h = refl

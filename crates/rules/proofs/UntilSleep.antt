@@ -11,8 +11,9 @@ use Rattle.types.specs.declared.Side.{Side}
 use Rattle.types.specs.declared.Bell.{Bell}
 use Rattle.types.specs.declared.Own.{Own}
 use Rattle.types.specs.declared.Nap.the-variants.{Sleeps as SleepsNow, Returns}
+use Rattle.types.specs.declared.Door.the-variants.{Open}
 use Rattle.types.specs.declared.Step.{Step}
-use Rattle.types.specs.declared.Step.the-variants.{Rest, Look, Copy, Publish, Check, Raise, Wake, Gate, Epoch, Again, GateAgain, Wait, Asleep, CloseSet, CloseRaise, CloseWake, ShutSet, ShutRaiseNe, ShutWakeNe, ShutRaiseNf, ShutWakeNf}
+use Rattle.types.specs.declared.Step.the-variants.{Rest, Look, Copy, Publish, Check, Raise, Wake, Gate, Epoch, Again, GateAgain, Wait, Asleep, LastLook, CloseSet, CloseRaise, CloseWake, ShutSet, ShutRaiseNe, ShutWakeNe, ShutRaiseNf, ShutWakeNf}
 use Rattle.rules.specs.Sides.{sleepBell, waitOp}
 use Rattle.rules.specs.Looks.{napOf}
 use Rattle.rules.specs.Steps.{napMove, waitMove}
@@ -20,7 +21,7 @@ use Rattle.rules.specs.Take.{stepAfter}
 use Rattle.rules.specs.Next.{nextAt}
 use Rattle.rules.specs.Stretch.{inWait}
 use Rattle.rules.proofs.After.{bellBy}
-use Rattle.rules.proofs.Leads.{Leads, idles, finds, blocks, gives-up, copies, spills, tells, stores, owes, passes, raises, wakes, enters, stops, reads, finds-again, stays, enters-again, stops-again, returns, ends, dreams, closes, closes-alone, close-raises, close-wakes, shuts, shut-raises, shut-wakes, shut-raises-again, shut-wakes-again, sleeps as falls-asleep}
+use Rattle.rules.proofs.Leads.{Leads, idles, finds, blocks, gives-up, copies, spills, tells, stores, owes, passes, raises, wakes, enters, stops, reads, finds-again, stays, enters-again, stops-again, returns, ends, dreams, glances, glances-again, times-out, finds-last, finds-none, closes, closes-alone, close-raises, close-wakes, shuts, shut-raises, shut-wakes, shut-raises-again, shut-wakes-again, sleeps as falls-asleep}
 use Rattle.rules.proofs.Costs.{less}
 use Rattle.rules.proofs.Heard.{setsNone}
 
@@ -39,6 +40,7 @@ toSleep b (Again e) = pick (eqb b e) 3 9
 toSleep b (GateAgain e) = pick (eqb b e) 2 8
 toSleep b (Wait e) = pick (eqb b e) 1 7
 toSleep b Asleep = 0
+toSleep b (LastLook c) = 0
 toSleep b CloseSet = 0
 toSleep b CloseRaise = 0
 toSleep b CloseWake = 0
@@ -66,6 +68,7 @@ nine b (Again e) = at-most (eqb b e) 3 9 (omega arith) (omega arith)
 nine b (GateAgain e) = at-most (eqb b e) 2 8 (omega arith) (omega arith)
 nine b (Wait e) = at-most (eqb b e) 1 7 (omega arith) (omega arith)
 nine b Asleep = omega arith
+nine b (LastLook c) = omega arith
 nine b CloseSet = omega arith
 nine b CloseRaise = omega arith
 nine b CloseWake = omega arith
@@ -94,6 +97,7 @@ slept b (Again e) w h = absurd (not-none (eqb b e) 3 9 (omega arith) (omega arit
 slept b (GateAgain e) w h = absurd (not-none (eqb b e) 2 8 (omega arith) (omega arith) h)
 slept b (Wait e) w h = absurd (not-none (eqb b e) 1 7 (omega arith) (omega arith) h)
 slept b Asleep w h = refl
+slept b (LastLook c) w h = absurd (let u : _≡_ {A = ℕ} 0 1 = cc in omega arith)
 slept b CloseSet w h = absurd (let u : _≡_ {A = ℕ} 0 1 = cc in omega arith)
 slept b CloseRaise w h = absurd (let u : _≡_ {A = ℕ} 0 1 = cc in omega arith)
 slept b CloseWake w h = absurd (let u : _≡_ {A = ℕ} 0 1 = cc in omega arith)
@@ -118,6 +122,7 @@ wait-stores-none (Again e) w = refl
 wait-stores-none (GateAgain e) w = refl
 wait-stores-none (Wait e) w = refl
 wait-stores-none Asleep w = refl
+wait-stores-none (LastLook c) w = absurd (let u : _≡_ {A = ℕ} 0 1 = cc in omega arith)
 wait-stores-none CloseSet w = absurd (let u : _≡_ {A = ℕ} 0 1 = cc in omega arith)
 wait-stores-none CloseRaise w = absurd (let u : _≡_ {A = ℕ} 0 1 = cc in omega arith)
 wait-stores-none CloseWake w = absurd (let u : _≡_ {A = ℕ} 0 1 = cc in omega arith)
@@ -141,6 +146,7 @@ wait-bell side n b c (Again e) w = refl
 wait-bell side n b c (GateAgain e) w = refl
 wait-bell side n b c (Wait e) w = refl
 wait-bell side n b c Asleep w = refl
+wait-bell side n b c (LastLook d) w = absurd (let u : _≡_ {A = ℕ} 0 1 = cc in omega arith)
 wait-bell side n b c CloseSet w = absurd (let u : _≡_ {A = ℕ} 0 1 = cc in omega arith)
 wait-bell side n b c CloseRaise w = absurd (let u : _≡_ {A = ℕ} 0 1 = cc in omega arith)
 wait-bell side n b c CloseWake w = absurd (let u : _≡_ {A = ℕ} 0 1 = cc in omega arith)
@@ -174,7 +180,11 @@ not-ended : (t : Bool) → Rest ≡ pick t Asleep Look → ⊥
 not-ended true q = let u : _≡_ {A = ℕ} 0 1 = cc in omega arith
 not-ended false q = let u : _≡_ {A = ℕ} 0 1 = cc in omega arith
 
-pub drowse : (x : ℕ) (r : Bool) (b : ℕ) → b < 2 ^ 32 → (s next : Step) → Leads 0 x false true r b s next → inWait s ≡ true → ((e : ℕ) → s ≡ Wait e → next ≡ pick (eqb b e) Asleep Look)
+not-timed : (t : Bool) → LastLook true ≡ pick t Asleep Look → ⊥
+not-timed true q = let u : _≡_ {A = ℕ} 0 1 = cc in omega arith
+not-timed false q = let u : _≡_ {A = ℕ} 0 1 = cc in omega arith
+
+pub drowse : (x : ℕ) (r : Bool) (b : ℕ) → b < 2 ^ 32 → (s next : Step) → Leads 0 x Open true r b s next → inWait s ≡ true → ((e : ℕ) → s ≡ Wait e → next ≡ pick (eqb b e) Asleep Look)
     → (inWait next ≡ true) × (toSleep b next ≤ less (toSleep b s))
 drowse x r b l s next idles w f = absurd (let u : _≡_ {A = ℕ} 0 1 = cc in omega arith)
 drowse x r b l s next (finds h) w f = absurd (omega arith)
@@ -199,6 +209,11 @@ drowse x r b l s next (falls-asleep h) w f = (refl, omega arith)
 drowse x r b l s next (returns {e = e}) w f = (refl, returned b e (f e refl))
 drowse x r b l s next (ends {e = e}) w f = absurd (not-ended (eqb b e) (f e refl))
 drowse x r b l s next dreams w f = (refl, omega arith)
+drowse x r b l s next (glances h) w f = absurd (let u : _≡_ {A = ℕ} 0 1 = cc in omega arith)
+drowse x r b l s next (glances-again h) w f = absurd (let u : _≡_ {A = ℕ} 0 1 = cc in omega arith)
+drowse x r b l s next (times-out {e = e}) w f = absurd (not-timed (eqb b e) (f e refl))
+drowse x r b l s next (finds-last h) w f = absurd (omega arith)
+drowse x r b l s next (finds-none h) w f = absurd (let u : _≡_ {A = ℕ} 0 1 = cc in omega arith)
 drowse x r b l s next (closes h) w f = absurd (let u : _≡_ {A = ℕ} 0 1 = cc in omega arith)
 drowse x r b l s next (closes-alone h) w f = absurd (let u : _≡_ {A = ℕ} 0 1 = cc in omega arith)
 drowse x r b l s next close-raises w f = absurd (let u : _≡_ {A = ℕ} 0 1 = cc in omega arith)

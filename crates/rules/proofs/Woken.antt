@@ -9,7 +9,7 @@ use Rattle.types.specs.declared.Side.the-variants.{Sender, Recorder}
 use Rattle.types.specs.declared.Bell.the-variants.{NotEmpty, NotFull}
 use Rattle.types.specs.declared.Party.{Party}
 use Rattle.types.specs.declared.Step.{Step}
-use Rattle.types.specs.declared.Step.the-variants.{Rest, Look, Copy, Publish, Check, Raise, Wake, Gate, Epoch, Again, GateAgain, Wait, Asleep, CloseSet, CloseRaise, CloseWake, ShutSet, ShutRaiseNe, ShutWakeNe, ShutRaiseNf, ShutWakeNf}
+use Rattle.types.specs.declared.Step.the-variants.{Rest, Look, Copy, Publish, Check, Raise, Wake, Gate, Epoch, Again, GateAgain, Wait, Asleep, LastLook, CloseSet, CloseRaise, CloseWake, ShutSet, ShutRaiseNe, ShutWakeNe, ShutRaiseNf, ShutWakeNf}
 use Rattle.rules.specs.Sides.{other}
 use Rattle.rules.specs.Take.{stanceOf}
 use Rattle.rules.specs.Next.{nextAt}
@@ -38,6 +38,7 @@ heard-by Sender n error (Again e) = refl
 heard-by Sender n error (GateAgain e) = refl
 heard-by Sender n error (Wait e) = refl
 heard-by Sender n error Asleep = refl
+heard-by Sender n error (LastLook c) = refl
 heard-by Sender n error CloseSet = refl
 heard-by Sender n error CloseRaise = refl
 heard-by Sender n error CloseWake = by (ltb 0 error)
@@ -75,6 +76,7 @@ heard-by Recorder n error (Again e) = refl
 heard-by Recorder n error (GateAgain e) = refl
 heard-by Recorder n error (Wait e) = refl
 heard-by Recorder n error Asleep = refl
+heard-by Recorder n error (LastLook c) = refl
 heard-by Recorder n error CloseSet = refl
 heard-by Recorder n error CloseRaise = refl
 heard-by Recorder n error CloseWake = by (ltb 0 error)
@@ -110,6 +112,7 @@ risen-phase true q (Again h) e = ap phase e
 risen-phase true q (GateAgain h) e = ap phase e
 risen-phase true q (Wait h) e = ap phase e
 risen-phase true q Asleep e = refl
+risen-phase true q (LastLook c) e = ap phase e
 risen-phase true q CloseSet e = ap phase e
 risen-phase true q CloseRaise e = ap phase e
 risen-phase true q CloseWake e = ap phase e
@@ -131,6 +134,7 @@ risen-phase false q (Again h) e = ap phase e
 risen-phase false q (GateAgain h) e = ap phase e
 risen-phase false q (Wait h) e = ap phase e
 risen-phase false q Asleep e = ap phase e
+risen-phase false q (LastLook c) e = ap phase e
 risen-phase false q CloseSet e = ap phase e
 risen-phase false q CloseRaise e = ap phase e
 risen-phase false q CloseWake e = ap phase e

@@ -8,11 +8,11 @@ use Rattle.types.specs.declared.Side.the-variants.{Sender, Recorder}
 use Rattle.types.specs.declared.Party.{Party}
 use Rattle.types.specs.declared.Reply.{Reply}
 use Rattle.types.specs.declared.Step.{Step}
-use Rattle.types.specs.declared.Step.the-variants.{Rest, Look, CloseSet, ShutSet}
+use Rattle.types.specs.declared.Step.the-variants.{Look, LastLook, CloseSet, ShutSet}
 use Rattle.types.specs.declared.Stance.{Stance}
 use Rattle.types.specs.declared.Stance.the-variants.{Resting, Sleeping, Copying, Publishing, Closing, Moving}
 use Rattle.types.specs.declared.Answer.{Answer}
-use Rattle.types.specs.declared.Answer.the-variants.{GoesOn, Closed, Timeout, Nothing, Begun, PayloadTooLong, NotFullOff, BadCall}
+use Rattle.types.specs.declared.Answer.the-variants.{GoesOn, Closed, Nothing, Begun, PayloadTooLong, NotFullOff, BadCall}
 use Rattle.layout.specs.Limits.{powerOk, slotOk, payloadCapacity}
 use Rattle.rules.specs.Sides.{sameSide}
 use Rattle.rules.specs.Take.{stanceOf}
@@ -87,5 +87,6 @@ rouses p goes asleep roused = pick goes (pick asleep roused (reply p Nothing)) (
 unfoldable pub spuriousSpec : Side → Party → Reply
 spuriousSpec side p = rouses p (sound side p) (isSleeping (stanceOf (p .step))) (reply (at Look p) GoesOn)
 
+-- a time-out leads to the last look
 unfoldable pub timeoutSpec : Side → Party → Reply
-timeoutSpec side p = rouses p (sound side p) (isSleeping (stanceOf (p .step))) (reply (at Rest p) Timeout)
+timeoutSpec side p = rouses p (sound side p) (isSleeping (stanceOf (p .step))) (reply (at (LastLook true) p) GoesOn)

@@ -11,11 +11,11 @@ use Rattle.types.specs.declared.Side.the-variants.{Sender, Recorder}
 use Rattle.types.specs.declared.Fault.{Fault}
 use Rattle.types.specs.declared.Fault.the-variants.{Fine, Error}
 use Rattle.types.specs.declared.Step.{Step}
-use Rattle.types.specs.declared.Step.the-variants.{Rest, Look, Publish, Check, Wake, Asleep, CloseSet, ShutSet}
+use Rattle.types.specs.declared.Step.the-variants.{Rest, Look, Publish, Check, Wake, Asleep, LastLook, CloseSet, ShutSet}
 use Rattle.types.specs.declared.Stance.{Stance}
 use Rattle.types.specs.declared.Event.{Event}
 use Rattle.types.specs.declared.Event.the-variants.{Turn, Failing}
-use Rattle.types.specs.declared.Answer.the-variants.{Done, Begun, Nothing}
+use Rattle.types.specs.declared.Answer.the-variants.{Done, Closed, Timeout, Begun, Nothing}
 use Rattle.layout.specs.Limits.{capacity, payloadCapacity}
 use Rattle.layout.specs.Header.{counterAt}
 use Rattle.layout.specs.Create.{createAnswer, created}
@@ -23,9 +23,10 @@ use Rattle.rules.specs.Sides.{other}
 use Rattle.types.specs.declared.Party.{Party}
 use Rattle.rules.specs.Calls.{sound, at, named, pushSpec, popSpec, closeSpec, shutSpec}
 use Rattle.rules.specs.Turn.{turnSpec}
+use Rattle.rules.specs.Bench.{played}
 use Rattle.rules.specs.Run.{Note, Trace, World, Happening, plays, partyIn, takes, happens, run, opened}
 use Rattle.rules.specs.Premises.{AllTyped, AllFair, AllLand, rung, partings, Quiet, down, closedBit}
-use Rattle.rules.specs.Stretch.{moves, calling, ticksBy, ticks, beats, AllOwn, Willing, inCall, notesOf, holdsEpoch, Underway, inWait, Turns}
+use Rattle.rules.specs.Stretch.{moves, calling, ticksBy, ticks, beats, OwnDoing, AllOwn, Willing, inCall, notesOf, holdsEpoch, Underway, inWait, Turns}
 
 -- how many notes wait: head − tail, in the region's bytes
 abbrev pub waiting : World → ℕ
@@ -184,6 +185,17 @@ module _ (region : List ℕ) (power slot : ℕ) (notfull : Bool) (start : ℕ) w
   Dreams side = (hs : List Happening) (payload lent : List ℕ) (fault : Fault) → partyIn (reached hs) side .step ≡ Asleep
       → (happens (plays (turnOf side fault) payload lent) (reached hs) ≡ reached hs)
       × (takes (reached hs) side payload lent fault ≡ true → turnSpec side (reached hs .region) (partyIn (reached hs) side) payload lent fault .answer ≡ Nothing)
+
+  -- T10: where a pop under way answers 11, everything ever sent has been delivered: whatever happens then, no note is sent
+  abbrev pub ClosedOverNone : Type 0
+  ClosedOverNone = (hs ms : List Happening) → AllTyped (hs ++ ms) → (payload lent : List ℕ) (fault : Fault)
+      → turnSpec Recorder (reached hs .region) (partyIn (reached hs) Recorder) payload lent fault .answer ≡ Closed
+      → reached (hs ++ ms) .trace .sent ≡ reached hs .trace .delivered
+
+  -- and whatever is answered 13 is answered so over no room: no note for the recorder, no free slot for the sender
+  abbrev pub TimeoutOverNone : Side → Type 0
+  TimeoutOverNone side = (hs : List Happening) → AllTyped hs → (e : Event) (payload lent : List ℕ) → OwnDoing side (plays e payload lent)
+      → played (reached hs .region) (reached hs .bench) payload lent e .answer ≡ Timeout → room side (capacity power) (reached hs) ≡ 0
 
   -- T8, on a run: whoever is attached has a sound record
   abbrev pub Sound : Side → Type 0

@@ -15,9 +15,9 @@ use Rattle.types.specs.declared.Fault.{Fault}
 use Rattle.types.specs.declared.Room.the-variants.{Blocked}
 use Rattle.types.specs.declared.Door.the-variants.{Shut, Left}
 use Rattle.types.specs.declared.Fit.the-variants.{Bad, Small}
-use Rattle.types.specs.declared.Nap.the-variants.{TimedOut, Fails}
+use Rattle.types.specs.declared.Nap.the-variants.{Fails}
 use Rattle.types.specs.declared.Step.{Step}
-use Rattle.types.specs.declared.Step.the-variants.{Rest, Look, Copy, Publish, Check, Wake, Gate, GateAgain, Wait, Asleep, CloseSet, CloseWake, ShutWakeNf}
+use Rattle.types.specs.declared.Step.the-variants.{Rest, Look, Copy, Publish, Check, Wake, Gate, GateAgain, Wait, Asleep, LastLook, CloseSet, CloseWake, ShutWakeNf}
 use Rattle.types.specs.declared.Move.the-variants.{To}
 use Rattle.types.specs.declared.Answer.{Answer}
 use Rattle.types.specs.declared.Answer.the-variants.{Done, CorruptIndices, CorruptSlot, Full, Empty, Closed, Shutdown, Timeout, OutputTooSmall, Syscall, PayloadTooLong, NotFullOff, BadCall, Nothing, Begun, GoesOn}
@@ -57,12 +57,13 @@ pub data EndsWith (p : Party) (v e : ℕ) : Answer → Type 0 where
   full : p .step ≡ Look → p .own .side ≡ Sender → p .blocking ≡ false → roomOf Sender (capacity (p .own .power)) (p .counter) v ≡ Blocked → EndsWith p v e Full
   empty : p .step ≡ Look → p .own .side ≡ Recorder → p .blocking ≡ false → roomOf Recorder (capacity (p .own .power)) (p .counter) v ≡ Blocked → EndsWith p v e Empty
   -- 11, 12
-  left : p .step ≡ Gate → doorOf (p .own .side) v ≡ Left → EndsWith p v e Closed
-  left-again : {epoch : ℕ} → p .step ≡ GateAgain epoch → doorOf (p .own .side) v ≡ Left → EndsWith p v e Closed
+  left : p .step ≡ Gate → p .own .side ≡ Sender → doorOf Sender v ≡ Left → EndsWith p v e Closed
+  left-again : {epoch : ℕ} → p .step ≡ GateAgain epoch → p .own .side ≡ Sender → doorOf Sender v ≡ Left → EndsWith p v e Closed
+  none-left : p .step ≡ LastLook false → roomOf (p .own .side) (capacity (p .own .power)) (p .counter) v ≡ Blocked → EndsWith p v e Closed
   down : p .step ≡ Gate → doorOf (p .own .side) v ≡ Shut → EndsWith p v e Shutdown
   down-again : {epoch : ℕ} → p .step ≡ GateAgain epoch → doorOf (p .own .side) v ≡ Shut → EndsWith p v e Shutdown
   -- 13
-  timed-out : {epoch : ℕ} → p .step ≡ Wait epoch → napOf e (eqb v epoch) ≡ TimedOut → EndsWith p v e Timeout
+  timed-out : p .step ≡ LastLook true → roomOf (p .own .side) (capacity (p .own .power)) (p .counter) v ≡ Blocked → EndsWith p v e Timeout
   -- 17: its operation and its error
   wake-failed : {l t : ℕ} → p .step ≡ Wake l t → eqb e 0 ≡ false → EndsWith p v e (Syscall (wakeOp (ringBell (p .own .side))) e)
   close-failed : p .step ≡ CloseWake → eqb e 0 ≡ false → EndsWith p v e (Syscall (wakeOp (ringBell (p .own .side))) e)
@@ -107,11 +108,11 @@ pub data Given : Ask → Answer → Type 0 where
   pop-begun : {p : Party} {b : Bool} {l : ℕ} → ready Recorder p ≡ true → p .closed ≡ false → Given (pop p b l) Begun
   close-begun : {side : Side} {p : Party} → ready side p ≡ true → p .closed ≡ false → Given (close side p) Begun
   shutdown-begun : {side : Side} {p : Party} → ready side p ≡ true → Given (shutdown side p) Begun
-  -- 253, or the sleeper's 255 and 13
+  -- 253, or the sleeper's 255
   spurious-idle : {side : Side} {p : Party} → sound side p ≡ true → isSleeping (stanceOf (p .step)) ≡ false → Given (spurious side p) Nothing
   timeout-idle : {side : Side} {p : Party} → sound side p ≡ true → isSleeping (stanceOf (p .step)) ≡ false → Given (timeout side p) Nothing
   spurious-taken : {side : Side} {p : Party} → sound side p ≡ true → isSleeping (stanceOf (p .step)) ≡ true → Given (spurious side p) GoesOn
-  timeout-taken : {side : Side} {p : Party} → sound side p ≡ true → isSleeping (stanceOf (p .step)) ≡ true → Given (timeout side p) Timeout
+  timeout-taken : {side : Side} {p : Party} → sound side p ≡ true → isSleeping (stanceOf (p .step)) ≡ true → Given (timeout side p) GoesOn
   -- the rest, by the step
   turn-taken : {side : Side} {r : List ℕ} {p : Party} {i o : List ℕ} {f : Fault} {x : Answer}
       → taken side r p i o f ≡ true → EndsWith p (valueOf r (p .own) (nextSpec p)) (errorOf f) x → Given (turn side r p i o f) x

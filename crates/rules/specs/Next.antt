@@ -7,7 +7,7 @@ use Rattle.types.specs.declared.Bell.the-variants.{NotEmpty, NotFull}
 use Rattle.types.specs.declared.Mark.the-variants.{Shutdown}
 use Rattle.types.specs.declared.Party.{Party}
 use Rattle.types.specs.declared.Step.{Step}
-use Rattle.types.specs.declared.Step.the-variants.{Rest, Look, Copy, Publish, Check, Raise, Wake, Gate, Epoch, Again, GateAgain, Wait, Asleep, CloseSet, CloseRaise, CloseWake, ShutSet, ShutRaiseNe, ShutWakeNe, ShutRaiseNf, ShutWakeNf}
+use Rattle.types.specs.declared.Step.the-variants.{Rest, Look, Copy, Publish, Check, Raise, Wake, Gate, Epoch, Again, GateAgain, Wait, Asleep, LastLook, CloseSet, CloseRaise, CloseWake, ShutSet, ShutRaiseNe, ShutWakeNe, ShutRaiseNf, ShutWakeNf}
 use Rattle.types.specs.declared.Access.{Access}
 use Rattle.types.specs.declared.Access.the-variants.{None, LoadCounter, LoadFlags, LoadBell, WriteSlot, ReadSlot, StoreCounter, RaiseBell, SetFlag, WaitBell, WakeBell}
 use Rattle.layout.specs.Flags.{closeMark}
@@ -39,6 +39,7 @@ nextAt (Again e) side n = LoadCounter (other side)
 nextAt (GateAgain e) side n = LoadFlags
 nextAt (Wait e) side n = WaitBell (sleepBell side) e
 nextAt Asleep side n = None
+nextAt (LastLook c) side n = LoadCounter (other side)
 nextAt CloseSet side n = SetFlag (closeMark side)
 nextAt CloseRaise side n = RaiseBell (ringBell side)
 nextAt CloseWake side n = WakeBell (ringBell side) all

@@ -1,15 +1,15 @@
 -- A step, as far as the statements care.
 use Prim.Native.Nat.{ℕ}
 use Rattle.types.specs.declared.Step.{Step}
-use Rattle.types.specs.declared.Step.the-variants.{Rest, Look, Copy, Publish, Check, Raise, Wake, Gate, Epoch, Again, GateAgain, Wait, Asleep, CloseSet, CloseRaise, CloseWake, ShutSet, ShutRaiseNe, ShutWakeNe, ShutRaiseNf, ShutWakeNf}
+use Rattle.types.specs.declared.Step.the-variants.{Rest, Look, Copy, Publish, Check, Raise, Wake, Gate, Epoch, Again, GateAgain, Wait, Asleep, LastLook, CloseSet, CloseRaise, CloseWake, ShutSet, ShutRaiseNe, ShutWakeNe, ShutRaiseNf, ShutWakeNf}
 
--- telling follows a store, asking comes before an epoch, armed to waits hold one
+-- telling follows a store, asking comes before an epoch, armed to waits hold one, glancing is the last look before 11 or 13
 pub data Phase : Type 0 where
   resting looking copying : Phase
   publishing telling : (length tag : ℕ) → Phase
   asking : Phase
   armed poised waits : (epoch : ℕ) → Phase
-  sleeps leaving : Phase
+  sleeps glancing leaving : Phase
 
 abbrev pub phase : Step → Phase
 phase Rest = resting
@@ -25,6 +25,7 @@ phase (Again e) = armed e
 phase (GateAgain e) = poised e
 phase (Wait e) = waits e
 phase Asleep = sleeps
+phase (LastLook c) = glancing
 phase CloseSet = leaving
 phase CloseRaise = leaving
 phase CloseWake = leaving

@@ -14,7 +14,7 @@ use Rattle.types.specs.declared.Party.{Party}
 use Rattle.types.specs.declared.Fault.{Fault}
 use Rattle.types.specs.declared.Fault.the-variants.{Fine, Error}
 use Rattle.types.specs.declared.Step.{Step}
-use Rattle.types.specs.declared.Step.the-variants.{Rest, Look, Copy, Publish, Check, Raise, Wake, Gate, Epoch, Again, GateAgain, Wait, Asleep, CloseSet, CloseRaise, CloseWake, ShutSet, ShutRaiseNe, ShutWakeNe, ShutRaiseNf, ShutWakeNf}
+use Rattle.types.specs.declared.Step.the-variants.{Rest, Look, Copy, Publish, Check, Raise, Wake, Gate, Epoch, Again, GateAgain, Wait, Asleep, LastLook, CloseSet, CloseRaise, CloseWake, ShutSet, ShutRaiseNe, ShutWakeNe, ShutRaiseNf, ShutWakeNf}
 use Rattle.types.specs.declared.Access.{Access}
 use Rattle.types.specs.declared.Access.the-variants.{None, LoadCounter, LoadFlags, LoadBell, WriteSlot, ReadSlot, StoreCounter, RaiseBell, SetFlag, WaitBell, WakeBell}
 use Rattle.types.specs.declared.Bench.{Bench}
@@ -107,6 +107,7 @@ carried (Again e) = record { length = 0; tag = 0 }
 carried (GateAgain e) = record { length = 0; tag = 0 }
 carried (Wait e) = record { length = 0; tag = 0 }
 carried Asleep = record { length = 0; tag = 0 }
+carried (LastLook c) = record { length = 0; tag = 0 }
 carried CloseSet = record { length = 0; tag = 0 }
 carried CloseRaise = record { length = 0; tag = 0 }
 carried CloseWake = record { length = 0; tag = 0 }

@@ -1,5 +1,5 @@
 -- Where a turn leads, a definition a step. A party's own copy of sizes and options is `own`.
-use mathlib.Core.Bool.{Bool, true}
+use mathlib.Core.Bool.{Bool, true, false}
 use Prim.Native.Nat.{ℕ}
 use lib.Dec.{eqb}
 use Rattle.types.specs.Pick.{pick}
@@ -16,7 +16,7 @@ use Rattle.types.specs.declared.Fit.the-variants.{Bad, Small, Fits}
 use Rattle.types.specs.declared.Nap.{Nap}
 use Rattle.types.specs.declared.Nap.the-variants.{Sleeps, Returns, TimedOut, Fails}
 use Rattle.types.specs.declared.Step.{Step}
-use Rattle.types.specs.declared.Step.the-variants.{Look, Copy, Publish, Check, Raise, Gate, GateAgain, Asleep, CloseRaise, ShutSet}
+use Rattle.types.specs.declared.Step.the-variants.{Look, Copy, Publish, Check, Raise, Gate, GateAgain, Asleep, LastLook, CloseRaise, ShutSet}
 use Rattle.types.specs.declared.Answer.{Answer}
 use Rattle.types.specs.declared.Answer.the-variants.{Done, CorruptIndices, CorruptSlot, Closed, Shutdown, Timeout, OutputTooSmall, Syscall}
 use Rattle.types.specs.declared.Move.{Move}
@@ -71,14 +71,19 @@ unlessFailed error operation answer = pick (eqb error 0) answer (Syscall operati
 unfoldable pub wakeMove : Own → (error length tag : ℕ) → Move
 wakeMove own error length tag = End (unlessFailed error (wakeOp (ringBell (own .side))) (Done length tag))
 
+-- the other has closed: a recorder looks once more, since the last note may have come before the close
+abbrev pub leftMove : Side → Move
+leftMove Sender = End Closed
+leftMove Recorder = To (LastLook false)
+
 -- B1, W1 and B4, W4: `onward` where the door is open
-abbrev pub doorMove : Door → (onward : Step) → Move
-doorMove Shut onward = End Shutdown
-doorMove Left onward = End Closed
-doorMove Open onward = To onward
+abbrev pub doorMove : Door → Side → (onward : Step) → Move
+doorMove Shut side onward = End Shutdown
+doorMove Left side onward = leftMove side
+doorMove Open side onward = To onward
 
 unfoldable pub gateMove : Own → (flags : ℕ) → (onward : Step) → Move
-gateMove own flags onward = doorMove (doorOf (own .side) flags) onward
+gateMove own flags onward = doorMove (doorOf (own .side) flags) (own .side) onward
 
 -- B3, W3
 unfoldable pub againMove : Own → (counter their epoch : ℕ) → Move
@@ -89,11 +94,16 @@ againMove own counter their epoch =
 abbrev pub napMove : Nap → (operation error : ℕ) → Move
 napMove Sleeps operation error = To Asleep
 napMove Returns operation error = To Look
-napMove TimedOut operation error = End Timeout
+napMove TimedOut operation error = To (LastLook true)
 napMove Fails operation error = End (Syscall operation error)
 
 unfoldable pub waitMove : Own → (word error epoch : ℕ) → Move
 waitMove own word error epoch = napMove (napOf error (eqb word epoch)) (waitOp (sleepBell (own .side))) error
+
+-- B6, W6: a time-out is answered, or the other's close, over no room alone
+unfoldable pub lastMove : Own → (counter their : ℕ) → (timed : Bool) → Move
+lastMove own counter their timed =
+    roomMove (roomOf (own .side) (capacity (own .power)) counter their) (End (pick timed Timeout Closed))
 
 -- a close's first turn
 unfoldable pub closeMove : Own → Move

@@ -15,7 +15,7 @@ use Rattle.types.specs.declared.Stance.{Stance}
 use Rattle.types.specs.declared.Stance.the-variants.{Resting, Sleeping, Copying, Publishing, Closing, Moving}
 use Rattle.types.specs.declared.Event.the-variants.{Turn, Failing, Spurious, TimeOut, Push, Pop, Close, Shutdown}
 use Rattle.rules.specs.Sides.{other}
-use Rattle.rules.specs.Phase.{Phase, resting, looking, copying, publishing, telling, asking, armed, poised, waits, sleeps, leaving, phase}
+use Rattle.rules.specs.Phase.{Phase, resting, looking, copying, publishing, telling, asking, armed, poised, waits, sleeps, glancing, leaving, phase}
 use Rattle.rules.specs.Take.{stanceOf}
 use Rattle.rules.specs.Premises.{rung}
 use Rattle.rules.specs.Run.{Note, Trace, World, Happening, attaches, plays, partyIn, takes, happens}
@@ -116,6 +116,7 @@ inCallAt (armed e) = true
 inCallAt (poised e) = true
 inCallAt (waits e) = true
 inCallAt sleeps = true
+inCallAt glancing = true
 inCallAt leaving = false
 
 abbrev pub inCall : Step → Bool
@@ -138,6 +139,7 @@ beforeCopyAt (armed e) = true
 beforeCopyAt (poised e) = true
 beforeCopyAt (waits e) = true
 beforeCopyAt sleeps = true
+beforeCopyAt glancing = true
 beforeCopyAt leaving = false
 
 abbrev pub beforeCopy : Step → Bool
@@ -154,6 +156,7 @@ holdsEpochAt (armed e) = true
 holdsEpochAt (poised e) = true
 holdsEpochAt (waits e) = true
 holdsEpochAt sleeps = false
+holdsEpochAt glancing = false
 holdsEpochAt leaving = false
 
 abbrev pub holdsEpoch : Step → Bool
@@ -179,6 +182,7 @@ inWaitAt (armed e) = true
 inWaitAt (poised e) = true
 inWaitAt (waits e) = true
 inWaitAt sleeps = true
+inWaitAt glancing = false
 inWaitAt leaving = false
 
 abbrev pub inWait : Step → Bool

@@ -8,12 +8,12 @@ use Rattle.types.specs.declared.Reply.{Reply}
 use Rattle.types.specs.declared.Answer.{Answer}
 use Rattle.types.specs.declared.Answer.the-variants.{GoesOn, Nothing}
 use Rattle.types.specs.declared.Step.{Step}
-use Rattle.types.specs.declared.Step.the-variants.{Rest, Look, Copy, Publish, Check, Raise, Wake, Gate, Epoch, Again, GateAgain, Wait, Asleep, CloseSet, CloseRaise, CloseWake, ShutSet, ShutRaiseNe, ShutWakeNe, ShutRaiseNf, ShutWakeNf}
+use Rattle.types.specs.declared.Step.the-variants.{Rest, Look, Copy, Publish, Check, Raise, Wake, Gate, Epoch, Again, GateAgain, Wait, Asleep, LastLook, CloseSet, CloseRaise, CloseWake, ShutSet, ShutRaiseNe, ShutWakeNe, ShutRaiseNf, ShutWakeNf}
 use Rattle.types.specs.declared.Stance.{Stance}
 use Rattle.types.specs.declared.Stance.the-variants.{Resting, Sleeping, Copying, Publishing, Closing, Moving}
 use Rattle.types.specs.declared.Move.{Move}
 use Rattle.types.specs.declared.Move.the-variants.{Still, To, End}
-use Rattle.rules.specs.Steps.{lookMove, copyMove, publishMove, checkMove, wakeMove, gateMove, againMove, waitMove, closeMove, shutMove}
+use Rattle.rules.specs.Steps.{lookMove, copyMove, publishMove, checkMove, wakeMove, gateMove, againMove, waitMove, lastMove, closeMove, shutMove}
 
 -- own and counter, blocking and length are the party's, v the value that came back, f the error announced (0: none)
 abbrev pub moveAt : Step → Own → (counter : ℕ) → (blocking : Bool) → (length v f : ℕ) → Move
@@ -30,6 +30,7 @@ moveAt (Again e) own n b l v f = againMove own n v e
 moveAt (GateAgain e) own n b l v f = gateMove own v (Wait e)
 moveAt (Wait e) own n b l v f = waitMove own v f e
 moveAt Asleep own n b l v f = Still
+moveAt (LastLook c) own n b l v f = lastMove own n v c
 moveAt CloseSet own n b l v f = closeMove own
 moveAt CloseRaise own n b l v f = To CloseWake
 moveAt CloseWake own n b l v f = wakeMove own f 0 0
@@ -54,6 +55,7 @@ stanceOf (Again e) = Moving
 stanceOf (GateAgain e) = Moving
 stanceOf (Wait e) = Moving
 stanceOf Asleep = Sleeping
+stanceOf (LastLook c) = Moving
 stanceOf CloseSet = Closing
 stanceOf CloseRaise = Moving
 stanceOf CloseWake = Moving

@@ -12,7 +12,7 @@ use Rattle.types.specs.declared.Bell.the-variants.{NotEmpty, NotFull}
 use Rattle.types.specs.declared.Party.{Party}
 use Rattle.types.specs.declared.Fault.{Fault}
 use Rattle.types.specs.declared.Step.{Step}
-use Rattle.types.specs.declared.Step.the-variants.{Rest, Look, Copy, Publish, Check, Raise, Wake, Gate, Epoch, Again, GateAgain, Wait, Asleep, CloseSet, CloseRaise, CloseWake, ShutSet, ShutRaiseNe, ShutWakeNe, ShutRaiseNf, ShutWakeNf}
+use Rattle.types.specs.declared.Step.the-variants.{Rest, Look, Copy, Publish, Check, Raise, Wake, Gate, Epoch, Again, GateAgain, Wait, Asleep, LastLook, CloseSet, CloseRaise, CloseWake, ShutSet, ShutRaiseNe, ShutWakeNe, ShutRaiseNf, ShutWakeNf}
 use Rattle.layout.specs.Limits.{slotHeadBytes}
 use Rattle.layout.specs.Header.{flagsAt, counterAt, bellAt}
 use Rattle.layout.specs.Slots.{headWord}
@@ -43,6 +43,7 @@ touchOf side (Again e) = nothing
 touchOf side (GateAgain e) = nothing
 touchOf side (Wait e) = nothing
 touchOf side Asleep = nothing
+touchOf side (LastLook c) = nothing
 touchOf side CloseSet = theFlags
 touchOf side CloseRaise = aBell (ringBell side)
 touchOf side CloseWake = nothing
@@ -85,6 +86,7 @@ seenBy side (Again e) r p = leAt 8 r (counterAt (other side))
 seenBy side (GateAgain e) r p = leAt 4 r flagsAt
 seenBy side (Wait e) r p = leAt 4 r (bellAt (sleepBell side))
 seenBy side Asleep r p = 0
+seenBy side (LastLook c) r p = leAt 8 r (counterAt (other side))
 seenBy side CloseSet r p = 0
 seenBy side CloseRaise r p = 0
 seenBy side CloseWake r p = 0
@@ -113,6 +115,7 @@ GivenBy side (Again e) r s p = Unit
 GivenBy side (GateAgain e) r s p = Unit
 GivenBy side (Wait e) r s p = Unit
 GivenBy side Asleep r s p = Unit
+GivenBy side (LastLook c) r s p = Unit
 GivenBy side CloseSet r s p = Unit
 GivenBy side CloseRaise r s p = Unit
 GivenBy side CloseWake r s p = Unit

@@ -25,6 +25,7 @@ pub fn stance_of(step: Step) -> Stance
         Step::GateAgain(_) => Stance::Moving,
         Step::Wait(_) => Stance::Moving,
         Step::Asleep => Stance::Sleeping,
+        Step::LastLook(_) => Stance::Moving,
         Step::CloseSet => Stance::Closing,
         Step::CloseRaise => Stance::Moving,
         Step::CloseWake => Stance::Moving,

@@ -6,7 +6,7 @@ use Rattle.types.specs.Answers.{toldOf}
 use Rattle.types.specs.declared.Side.{Side}
 use Rattle.types.specs.declared.Side.the-variants.{Sender, Recorder}
 use Rattle.types.specs.declared.Step.{Step}
-use Rattle.types.specs.declared.Step.the-variants.{Rest, Look, Copy, Publish, Check, Raise, Wake, Gate, Epoch, Again, GateAgain, Wait, Asleep, CloseSet, CloseRaise, CloseWake, ShutSet, ShutRaiseNe, ShutWakeNe, ShutRaiseNf, ShutWakeNf}
+use Rattle.types.specs.declared.Step.the-variants.{Rest, Look, Copy, Publish, Check, Raise, Wake, Gate, Epoch, Again, GateAgain, Wait, Asleep, LastLook, CloseSet, CloseRaise, CloseWake, ShutSet, ShutRaiseNe, ShutWakeNe, ShutRaiseNf, ShutWakeNf}
 use Rattle.types.specs.declared.Own.{Own}
 use Rattle.types.specs.declared.Party.{Party}
 use Rattle.types.specs.declared.Told.{Told}
@@ -53,6 +53,7 @@ standOf (Again epoch) = 9
 standOf (GateAgain epoch) = 10
 standOf (Wait epoch) = 11
 standOf Asleep = 12
+standOf (LastLook timed) = 21
 standOf CloseSet = 13
 standOf CloseRaise = 14
 standOf CloseWake = 15

@@ -74,6 +74,7 @@ fn stand_of(step: Step) -> u32
         Step::GateAgain(_) => 10,
         Step::Wait(_) => 11,
         Step::Asleep => 12,
+        Step::LastLook(_) => 21,
         Step::CloseSet => 13,
         Step::CloseRaise => 14,
         Step::CloseWake => 15,

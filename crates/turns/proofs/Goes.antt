@@ -11,7 +11,7 @@ use Rattle.types.specs.declared.Side.the-variants.{Sender, Recorder}
 use Rattle.types.specs.declared.Party.{Party}
 use Rattle.types.specs.declared.Fault.{Fault}
 use Rattle.types.specs.declared.Step.{Step}
-use Rattle.types.specs.declared.Step.the-variants.{Rest, Look, Copy, Publish, Check, Raise, Wake, Gate, Epoch, Again, GateAgain, Wait, Asleep, CloseSet, CloseRaise, CloseWake, ShutSet, ShutRaiseNe, ShutWakeNe, ShutRaiseNf, ShutWakeNf}
+use Rattle.types.specs.declared.Step.the-variants.{Rest, Look, Copy, Publish, Check, Raise, Wake, Gate, Epoch, Again, GateAgain, Wait, Asleep, LastLook, CloseSet, CloseRaise, CloseWake, ShutSet, ShutRaiseNe, ShutWakeNe, ShutRaiseNf, ShutWakeNf}
 use Rattle.layout.specs.Limits.{powerOk, slotOk, payloadCapacity, totalBytes}
 use Rattle.rules.specs.Sides.{sameSide}
 use Rattle.rules.specs.Take.{stanceOf}
@@ -44,6 +44,7 @@ module _ (n slot payload named buffer : ℕ) where
   lent-at side own same long (GateAgain e) k = tt
   lent-at side own same long (Wait e) k = tt
   lent-at side own same long Asleep k = tt
+  lent-at side own same long (LastLook c) k = tt
   lent-at side own same long CloseSet k = tt
   lent-at side own same long CloseRaise k = tt
   lent-at side own same long CloseWake k = tt

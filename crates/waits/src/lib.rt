@@ -1,21 +1,33 @@
 // Where a turn of a wait, a close or a shutdown leads, a function a step.
 ghost use mathlib.Core.Path.{_≡_};
-ghost use Rattle.rules.specs.Steps.{doorMove, gateMove, againMove, napMove, waitMove, closeMove, shutMove};
+ghost use Rattle.types.specs.Pick.{pick};
+ghost use Rattle.rules.specs.Steps.{leftMove, doorMove, gateMove, againMove, napMove, waitMove, lastMove, closeMove, shutMove};
 use types::Answer;
 use types::Bell;
 use types::Door;
 use types::Move;
 use types::Nap;
 use types::Own;
+use types::Side;
 use types::Step;
 
+// Where the other has closed, a recorder looks once more: the last note may have come before the close.
+fn left_move(side: Side) -> Move
+    ensures { λ r. ⌜ r ≡ leftMove side ⌝ }
+{
+    match side {
+        Side::Sender => Move::End(Answer::Closed),
+        Side::Recorder => Move::To(Step::LastLook(false)),
+    }
+}
+
 // An open door leads onward.
-pub fn door_move(door: Door, onward: Step) -> Move
-    ensures { λ r. ⌜ r ≡ doorMove door onward ⌝ }
+fn door_move(door: Door, side: Side, onward: Step) -> Move
+    ensures { λ r. ⌜ r ≡ doorMove door side onward ⌝ }
 {
     match door {
         Door::Shut => Move::End(Answer::Shutdown),
-        Door::Left => Move::End(Answer::Closed),
+        Door::Left => left_move(side),
         Door::Open => Move::To(onward),
     }
 }
@@ -26,7 +38,7 @@ pub fn gate_move(own: Own, flags: u64, onward: Step) -> Move
 {
     let side = own.side;
     let door = looks::door_of(side, flags);
-    door_move(door, onward)
+    door_move(door, side, onward)
 }
 
 // B3 and W3.
@@ -45,7 +57,7 @@ pub fn nap_move(nap: Nap, operation: u8, error: u16) -> Move
     match nap {
         Nap::Sleeps => Move::To(Step::Asleep),
         Nap::Returns => Move::To(Step::Look),
-        Nap::TimedOut => Move::End(Answer::Timeout),
+        Nap::TimedOut => Move::To(Step::LastLook(true)),
         Nap::Fails => Move::End(Answer::Syscall(operation, error)),
     }
 }
@@ -60,6 +72,26 @@ pub fn wait_move(own: Own, word: u64, error: u16, epoch: u32) -> Move
     let bell = sides::sleep_bell(side);
     let operation = sides::wait_op(bell);
     nap_move(nap, operation, error)
+}
+
+fn last_answer(timed: bool) -> Answer
+    ensures { λ r. ⌜ r ≡ pick timed Answer.Timeout Answer.Closed ⌝ }
+{
+    if timed {
+        return Answer::Timeout;
+    }
+    Answer::Closed
+}
+
+// B6 and W6: a time-out is answered, or the other's close, over no room alone.
+pub fn last_move(own: Own, counter: u64, their: u64, timed: bool) -> Move
+    ensures { λ r. ⌜ r ≡ lastMove own counter their timed ⌝ }
+{
+    let side = own.side;
+    let capacity = sizes::capacity(own.power);
+    let room = rooms::room_of(side, capacity, counter, their);
+    let answer = last_answer(timed);
+    steps::room_move(room, Move::End(answer))
 }
 
 // A close's first turn.

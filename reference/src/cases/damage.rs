@@ -10,8 +10,10 @@ pub fn list() -> Vec<Case> {
     let mut cases = Vec::new();
     for side in SIDES {
         cases.extend([1, 4].map(|turn| corrupt(side, turn)));
+        cases.push(corrupt_at_last(side));
         cases.push(far_apart(side));
     }
+    cases.push(corrupt_after_close());
     cases.extend(BAD_LENGTHS.map(bad_slot));
     cases.push(too_small());
     cases.extend((0..64).map(flipped));
@@ -29,6 +31,16 @@ fn at_other(side: Side) -> usize {
     }
 }
 
+/// The other's counter where used is 3, in a ring that the side can do nothing with.
+fn too_far(side: Side) -> u64 {
+    match side {
+        // Head is 2 there.
+        Sender => u64::MAX,
+        // Tail is 0.
+        Recorder => 3,
+    }
+}
+
 /// Used above capacity at the first look or at the one before sleep, then the five turns, with
 /// failed wakes that are ignored; the other is asleep meanwhile where it can be.
 fn corrupt(side: Side, turn: usize) -> Case {
@@ -38,24 +50,45 @@ fn corrupt(side: Side, turn: usize) -> Case {
         (Recorder, 1) => "C1",
         (Recorder, _) => "W3",
     };
-    let value = match side {
-        // Head is 2 here, so used is 3.
-        Sender => u64::MAX,
-        // Tail is 0.
-        Recorder => 3,
-    };
     let name = format!("Answer 7 at {place}, shutdown's five turns, failed wakes ignored");
     Case::on(name, Ring::SMALL)
         .stuck(side)
         .blocking_call(side)
         .turns(side, turn - 1)
-        .put(at_other(side), 8, value)
+        .put(at_other(side), 8, too_far(side))
         .turns(side, 6)
         .blocking_call(side)
         .turns(side, 1)
         .asks([Ask::Failing(side, 22); 5])
         .blocking_call(side.other())
         .turns(side.other(), 2)
+}
+
+/// The same at the last look, after a time-out.
+fn corrupt_at_last(side: Side) -> Case {
+    let place = match side {
+        Sender => "B6",
+        Recorder => "W6",
+    };
+    let name = format!("Answer 7 at {place} after a time-out, failed wakes ignored");
+    Case::on(name, Ring::SMALL)
+        .asleep(side)
+        .ask(Ask::TimeOut(side))
+        .put(at_other(side), 8, too_far(side))
+        .turns(side, 1)
+        .asks([Ask::Failing(side, 22); 5])
+}
+
+/// The same after the sender's close.
+fn corrupt_after_close() -> Case {
+    Case::on("Answer 7 at W6 after a close, 11 is not given", Ring::SMALL)
+        .pop(true, 8)
+        .turns(Recorder, 1)
+        .ask(Ask::Close(Sender))
+        .turns(Sender, 3)
+        .turns(Recorder, 1)
+        .put(Header::AT_HEAD, 8, too_far(Recorder))
+        .turns(Recorder, 6)
 }
 
 /// Differences of every size, and a try form.

@@ -13,6 +13,7 @@ pub fn list() -> Vec<Case> {
             cases.push(other_lengths(side, stance));
         }
         cases.push(while_it_runs(side));
+        cases.push(at_last_look(side));
         cases.push(copies(side));
     }
     cases.push(any_length());
@@ -187,6 +188,30 @@ fn while_it_runs(side: Side) -> Case {
         case = case.asks(meanwhile).turns(side, 1);
     }
     case
+}
+
+/// The grounds of 20 at the last look, and what only a sleeper hears. Its turn makes no futex
+/// call, so an announced failure is ignored there.
+fn at_last_look(side: Side) -> Case {
+    let total = Ring::SMALL.total();
+    let name = format!("Answers 20 and 253 at the last look of the {}", side.name());
+    let good = good(side, Stance::Asleep);
+    let stranger = Terms {
+        attached: false,
+        ..good
+    };
+    Case::on(name, Ring::SMALL)
+        .asleep(side)
+        .ask(Ask::TimeOut(side))
+        .asks(entries(side).into_iter().skip(2))
+        .lend(Part::Region, total - 1)
+        .turns(side, 1)
+        .lend(Part::Region, total)
+        .ask(Ask::Spoil(side, stranger))
+        .turns(side, 1)
+        .ask(Ask::TimeOut(side))
+        .ask(Ask::Spoil(side, good))
+        .ask(Ask::Failing(side, 22))
 }
 
 /// A copy turn lent a buffer of another length than the call named.

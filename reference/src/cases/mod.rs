@@ -5,6 +5,7 @@ pub mod case;
 mod damage;
 mod grounds;
 mod headers;
+mod last_looks;
 pub mod record;
 mod rings;
 mod spoilt;
@@ -24,6 +25,7 @@ use crate::words;
 pub fn list() -> Vec<Case> {
     [
         turns::list(),
+        last_looks::list(),
         rings::list(),
         damage::list(),
         grounds::list(),

@@ -64,7 +64,8 @@ pub fn party_word(seat: Side, party: &Party) -> u64 {
     pair(step_number(party.step), sum.value())
 }
 
-/// Steps of the two sides that mirror each other have one number.
+/// Steps of the two sides that mirror each other have one number. The last look has the number
+/// after all others: it came last, and no other number was to move.
 fn step_number(step: Step) -> u32 {
     match step {
         Step::Rest => 0,
@@ -80,6 +81,7 @@ fn step_number(step: Step) -> u32 {
         Step::B4 { .. } | Step::W4 { .. } => 10,
         Step::B5 { .. } | Step::W5 { .. } => 11,
         Step::Asleep => 12,
+        Step::B6 | Step::W6 { .. } => 21,
         Step::Close(CloseTurn::SetBit) => 13,
         Step::Close(CloseTurn::Raise) => 14,
         Step::Close(CloseTurn::WakeAll) => 15,

@@ -88,7 +88,7 @@ fn sleeper(side: Side) -> Case {
         .ask(Ask::Spurious(side))
         .turns(side, 6)
         .ask(Ask::TimeOut(side))
-        .turns(side, 1)
+        .turns(side, 2)
         .ask(Ask::TimeOut(side))
 }
 
@@ -104,12 +104,12 @@ fn failing_waits(side: Side) -> Case {
             .asks([Ask::Failing(side, error); 6])
             .ask(Ask::Shutdown(side))
             .ask(Ask::TimeOut(side));
-        // Back at the first step, the call is let sleep and then end.
-        if matches!(error, 4 | 11) {
-            case = case.turns(side, 6).ask(Ask::TimeOut(side));
-        } else {
-            case = case.turns(side, 5);
-        }
+        // Back at the first step, the call is let sleep and then end; at the last look it ends.
+        case = match error {
+            4 | 11 => case.turns(side, 6).ask(Ask::TimeOut(side)).turns(side, 1),
+            110 => case.turns(side, 2),
+            _ => case.turns(side, 5),
+        };
         case = case.put(Header::AT_FLAGS, 1, 0x47);
     }
     case
@@ -181,6 +181,7 @@ fn shutdowns(side: Side) -> Case {
         case = case
             .turns(other, 2)
             .ask(Ask::TimeOut(other))
+            .turns(other, 1)
             .put(Header::AT_FLAGS, 1, 0x47);
     }
     case
@@ -198,7 +199,8 @@ fn looks_again(side: Side) -> Case {
             .turns(side, 2)
             .put(Header::AT_FLAGS, 1, 0x47)
             .turns(side, 4)
-            .ask(Ask::TimeOut(side));
+            .ask(Ask::TimeOut(side))
+            .turns(side, 1);
     }
     case
 }

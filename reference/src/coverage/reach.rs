@@ -86,6 +86,7 @@ fn may_come_to_copy(step: Step) -> bool {
             | Step::W3 { .. }
             | Step::W4 { .. }
             | Step::W5 { .. }
+            | Step::W6 { .. }
             | Step::Asleep
     )
 }

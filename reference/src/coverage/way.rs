@@ -34,7 +34,7 @@ const SHARED: [Step; 10] = {
     ]
 };
 
-const PUSH: [Step; 11] = [
+const PUSH: [Step; 12] = [
     Step::P1,
     Step::P2,
     Step::P3,
@@ -46,9 +46,10 @@ const PUSH: [Step; 11] = [
     Step::B3 { epoch: 0 },
     Step::B4 { epoch: 0 },
     Step::B5 { epoch: 0 },
+    Step::B6,
 ];
 
-const POP: [Step; 11] = [
+const POP: [Step; 12] = [
     Step::C1,
     Step::C2,
     Step::C3 { length: 0 },
@@ -60,6 +61,7 @@ const POP: [Step; 11] = [
     Step::W3 { epoch: 0 },
     Step::W4 { epoch: 0 },
     Step::W5 { epoch: 0 },
+    Step::W6 { timed_out: false },
 ];
 
 impl Place {
@@ -73,6 +75,7 @@ impl Place {
             Step::W3 { .. } => Step::W3 { epoch },
             Step::W4 { .. } => Step::W4 { epoch },
             Step::W5 { .. } => Step::W5 { epoch },
+            Step::W6 { .. } => Step::W6 { timed_out: false },
             Step::C3 { .. } => Step::C3 { length },
             Step::C4 { .. } => Step::C4 { length },
             Step::C5 { .. } => Step::C5 { length },

@@ -7,7 +7,7 @@ use super::menu::Menu;
 use super::normal::normal;
 use super::search::Walk;
 use crate::answer::Answer;
-use crate::party::{Side, Step};
+use crate::party::{Party, Side, Step};
 
 /// A stretch of one party's own doings: what it may do, and where it has arrived.
 #[derive(Clone, Copy)]
@@ -164,6 +164,48 @@ pub fn to_rest(machine: &mut Machine, states: &[State], side: Side, menu: Menu) 
     };
     let stopping = |state: &&State| state.is_still(side.other()) && state.must_stop(side);
     largest(machine, stretch, states.iter().filter(stopping))
+}
+
+/// A party in a call that may sleep. At its last look it may not: that one ends, or copies.
+fn in_wait(party: &Party) -> bool {
+    let waits = matches!(
+        party.step,
+        Step::P1
+            | Step::B1
+            | Step::B2
+            | Step::B3 { .. }
+            | Step::B4 { .. }
+            | Step::B5 { .. }
+            | Step::C1
+            | Step::W1
+            | Step::W2
+            | Step::W3 { .. }
+            | Step::W4 { .. }
+            | Step::W5 { .. }
+    );
+    waits && party.blocking
+}
+
+/// T9: the turns of a party with no room, and no cause to stop, until it sleeps; no wait fails.
+/// `from` picks the steps that are counted from.
+pub fn to_sleep(
+    machine: &mut Machine,
+    states: &[State],
+    side: Side,
+    from: fn(Step) -> bool,
+) -> Largest {
+    let stretch = Stretch {
+        side,
+        menu: Menu::NOTES,
+        arrived: |state, side| state.step(side) == Step::Asleep,
+    };
+    let drowsy = |state: &&State| {
+        in_wait(state.bench.party(side))
+            && from(state.step(side))
+            && state.room(side) == 0
+            && !state.must_stop(side)
+    };
+    largest(machine, stretch, states.iter().filter(drowsy))
 }
 
 /// All states that a menu leads to.

@@ -1,6 +1,6 @@
 //! The claims that a run may break, as crates/rules/specs/Claims.antt states them.
 
-use super::machine::{number_before, State};
+use super::machine::{number_before, Event, State};
 use crate::answer::Answer;
 use crate::party::{Side, Step};
 
@@ -14,15 +14,22 @@ pub enum Claim {
     Carries,
     /// T3: nobody sleeps without cause.
     Cause(Side),
+    /// T10: a pop that is answered 11 has left no note behind, and none will come.
+    Closed,
+    /// T10: whoever is answered 13 has no room.
+    Timeout(Side),
 }
 
 impl Claim {
-    pub const ALL: [Claim; 5] = [
+    pub const ALL: [Claim; 8] = [
         Claim::Order,
         Claim::Count,
         Claim::Carries,
         Claim::Cause(Side::Sender),
         Claim::Cause(Side::Recorder),
+        Claim::Closed,
+        Claim::Timeout(Side::Sender),
+        Claim::Timeout(Side::Recorder),
     ];
 
     /// The theorem, and its name in Claims.antt.
@@ -32,14 +39,18 @@ impl Claim {
             Claim::Carries => "T1, DoneCarries",
             Claim::Cause(Side::Sender) => "T3, WithCause Sender",
             Claim::Cause(Side::Recorder) => "T3, WithCause Recorder",
+            Claim::Closed => "T10, ClosedOverNone",
+            Claim::Timeout(Side::Sender) => "T10, TimeoutOverNone Sender",
+            Claim::Timeout(Side::Recorder) => "T10, TimeoutOverNone Recorder",
         }
     }
 }
 
-/// A state before and after an event, with the event's answer.
+/// An event with its answer, and the states before and after it.
 pub struct Seen<'a> {
     pub before: &'a State,
     pub after: &'a State,
+    pub event: Event,
     pub answer: Answer,
 }
 
@@ -69,6 +80,27 @@ fn with_cause(side: Side, state: &State) -> bool {
         || (state.room(side) == 0 && !state.must_stop(side))
 }
 
+/// Whether the sender has closed and is in no push: a push may be begun before the close alone.
+fn sends_no_more(state: &State) -> bool {
+    let over = matches!(
+        state.step(Side::Sender),
+        Step::Rest | Step::Close(_) | Step::Shut { .. }
+    );
+    over && state.bench.sender.closed
+}
+
+/// A menu offers no begin that is refused, so it is a turn that answers 11 here.
+fn closed_over_none(seen: &Seen) -> bool {
+    let state = seen.after;
+    let told = seen.event.side() == Some(Side::Recorder) && seen.answer == Answer::Closed;
+    !told || (state.sent == state.got && state.waiting() == 0 && sends_no_more(state))
+}
+
+fn timeout_over_none(side: Side, seen: &Seen) -> bool {
+    let told = seen.event.side() == Some(side) && seen.answer == Answer::Timeout;
+    !told || seen.after.room(side) == 0
+}
+
 impl Claim {
     pub fn holds(self, seen: &Seen) -> bool {
         match self {
@@ -76,6 +108,8 @@ impl Claim {
             Claim::Count => counted(seen.after),
             Claim::Carries => carried(seen),
             Claim::Cause(side) => with_cause(side, seen.after),
+            Claim::Closed => closed_over_none(seen),
+            Claim::Timeout(side) => timeout_over_none(side, seen),
         }
     }
 }

@@ -9,7 +9,8 @@ use super::search::{Explored, Walk};
 use super::tables;
 use crate::party::Side;
 use crate::published::{
-    EarlyPop, EarlyPush, LateHead, LateTail, OneLookPop, OneLookPush, SilentClose,
+    ClosedAtOnce, EarlyPop, EarlyPush, LateHead, LateTail, OneLookPop, OneLookPush, SilentClose,
+    TimeoutAtOnce,
 };
 use crate::rules::Mended;
 
@@ -28,9 +29,18 @@ const FAILING: Menu = Menu {
     wakes_fail: true,
     ..Menu::CALLS
 };
+const TIMED: Menu = Menu {
+    time_outs: true,
+    ..Menu::CALLS
+};
 const CAUSE: &[Claim] = &[Claim::Cause(Side::Sender), Claim::Cause(Side::Recorder)];
+const LAST: &[Claim] = &[
+    Claim::Closed,
+    Claim::Timeout(Side::Sender),
+    Claim::Timeout(Side::Recorder),
+];
 
-pub fn rules() -> [Rule; 7] {
+pub fn rules() -> [Rule; 9] {
     let sleeper = |name, says, turns| Rule {
         name,
         says,
@@ -44,6 +54,13 @@ pub fn rules() -> [Rule; 7] {
         turns,
         menu: FAILING,
         claims,
+    };
+    let last_look = |name, says, turns| Rule {
+        name,
+        says,
+        turns,
+        menu: TIMED,
+        claims: LAST,
     };
     [
         sleeper(
@@ -82,6 +99,16 @@ pub fn rules() -> [Rule; 7] {
             "a pop moves its own counter after the wake, so not at all if the wake fails",
             Turns::by::<LateTail>(),
             &[Claim::Order],
+        ),
+        last_look(
+            "12.4.2.6",
+            "a pop that found the ring empty answers Closed as it sees the sender's close",
+            Turns::by::<ClosedAtOnce>(),
+        ),
+        last_look(
+            "12.3.4",
+            "a time-out answers Timeout, and the ring is not looked at again",
+            Turns::by::<TimeoutAtOnce>(),
         ),
     ]
 }
@@ -141,8 +168,8 @@ fn kept(report: &mut Report, name: &str, explored: &Explored) {
     report.line(&format!("  {name:<22}  {verdict}"));
 }
 
-/// The mended rules, explored to the end: T1 with every wake failing at will, T3 for each side
-/// under its premise.
+/// The mended rules, explored to the end: T1 and T10 with every wake failing at will, T3 for
+/// each side under its premise.
 pub fn mended() -> Report {
     let mut report = Report::new(
         "The rules as document 01 mends them: every order of turns, however many notes.\n".into(),
@@ -166,6 +193,12 @@ pub fn mended() -> Report {
             let name = Claim::Cause(side).name();
             kept(&mut report, name, &t3.from_start(&mut machine));
         }
+        let t10 = Walk {
+            menu: Menu::ALL,
+            claims: LAST,
+            raises: 1,
+        };
+        kept(&mut report, "T10", &t10.from_start(&mut machine));
     }
     report
 }

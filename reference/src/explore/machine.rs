@@ -7,7 +7,7 @@ use super::meddling::{meddle, Meddling};
 use crate::answer::{Answer, Bell};
 use crate::bench::Bench;
 use crate::header::Header;
-use crate::party::{Side, Step};
+use crate::party::{Party, Side, Step};
 use crate::region;
 use crate::rules::Rules;
 
@@ -20,11 +20,12 @@ const SLOT_SIZE: u32 = 16;
 /// A note is one byte, its number, which is its tag too.
 const LENGTH: usize = 1;
 
-/// The turns of a bench by one set of rules.
+/// The turns of a bench, and the end of a sleeper's time, by one set of rules.
 #[derive(Clone, Copy)]
 pub struct Turns {
     pub sender: fn(&mut Bench, &mut [u8], &[u8], Option<u16>) -> Answer,
     pub recorder: fn(&mut Bench, &mut [u8], &mut [u8], Option<u16>) -> Answer,
+    pub time_out: fn(&mut Party, Side) -> Answer,
     /// The bits of a bell that a wait looks at.
     pub bell: u32,
 }
@@ -34,6 +35,7 @@ impl Turns {
         Turns {
             sender: Bench::sender_turn_by::<R>,
             recorder: Bench::recorder_turn_by::<R>,
+            time_out: Party::time_out_by::<R>,
             bell: R::BELL,
         }
     }
@@ -56,6 +58,23 @@ pub enum Event {
     Close(Side),
     Shutdown(Side),
     Meddles(Meddling),
+}
+
+impl Event {
+    /// The party that it comes to; none for a meddler.
+    pub fn side(self) -> Option<Side> {
+        match self {
+            Event::Turn(side)
+            | Event::Fails(side, _)
+            | Event::Spurious(side)
+            | Event::TimeOut(side)
+            | Event::Close(side)
+            | Event::Shutdown(side) => Some(side),
+            Event::Push { .. } => Some(Side::Sender),
+            Event::Pop { .. } => Some(Side::Recorder),
+            Event::Meddles(_) => None,
+        }
+    }
 }
 
 #[derive(Clone, Copy, Debug, PartialEq, Eq, Hash)]
@@ -252,7 +271,7 @@ impl Machine {
             Event::Turn(side) => self.turn(&mut after, side, None),
             Event::Fails(side, error) => self.turn(&mut after, side, Some(error)),
             Event::Spurious(side) => bench.party_mut(side).spurious_return(side),
-            Event::TimeOut(side) => bench.party_mut(side).time_out(side),
+            Event::TimeOut(side) => (self.turns.time_out)(bench.party_mut(side), side),
             Event::Push { blocking } => {
                 let tag = u16::from(state.sent);
                 bench.sender.begin_push(blocking, tag, LENGTH)

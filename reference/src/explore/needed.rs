@@ -54,7 +54,8 @@ fn wake() -> Report {
     mended_run(&mut report, closes, CAUSE);
     report.line(
         "\nT2 and T4 as stated do not need it: they count turns that are taken, and a sleeper's\n\
-         answer 253. With every wake failing at will, the most own turns at capacity 2:\n",
+         answer 253; T9 asks nothing of wakes. With every wake failing at will, the most own\n\
+         turns at capacity 2:\n",
     );
     report.well &= tables::own_turns(&mut report, Turns::by::<Mended>(), 1, |_| Menu::ALL);
     report
@@ -107,7 +108,7 @@ fn bell() -> Report {
     report.line("\nThe most raises that a wait finds since its epoch, at capacities 2 and 4:\n");
     tables::raise_counts(&mut report);
     report.line(
-        "\nAs with wakes that fail, the numbers of T2 and T4 stay. With a bell of one bit:\n",
+        "\nAs with wakes that fail, the numbers of T2, T4 and T9 stay. With a bell of one bit:\n",
     );
     let narrow = Turns::by::<NarrowBell<1>>();
     report.well &= tables::own_turns(&mut report, narrow, 1, Menu::fair);
@@ -184,7 +185,7 @@ pub const PREMISES: [Premise; 6] = [
     },
     Premise {
         name: "time-out",
-        says: "not a premise: T2 and T4 counted with time-outs and without",
+        says: "not a premise: T2, T4 and T9 counted with time-outs and without",
         told: time_out,
     },
     Premise {

@@ -48,7 +48,7 @@ fn with_epoch(step: Step, epoch: u32) -> Step {
 /// Whether a step still uses the record's tag, and a pop's the buffer.
 fn uses_note(side: Side, step: Step) -> bool {
     match side {
-        Side::Sender => step == Step::P2 || uses_mode(step),
+        Side::Sender => matches!(step, Step::P2 | Step::B6) || uses_mode(step),
         Side::Recorder => matches!(
             step,
             Step::C3 { .. } | Step::C4 { .. } | Step::C5 { .. } | Step::C6 { .. }

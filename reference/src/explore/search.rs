@@ -72,6 +72,7 @@ impl Walker {
             let seen = Seen {
                 before: &before,
                 after: &after,
+                event,
                 answer,
             };
             if let Some(&claim) = walk.claims.iter().find(|claim| !claim.holds(&seen)) {

@@ -144,7 +144,8 @@ impl Scene<'_> {
     fn access(&self, side: Side) -> String {
         match self.before.step(side) {
             Step::Rest | Step::Asleep => "does nothing".into(),
-            Step::P1 | Step::B3 { .. } | Step::C1 | Step::W3 { .. } => self.loads(side),
+            Step::P1 | Step::B3 { .. } | Step::B6 => self.loads(side),
+            Step::C1 | Step::W3 { .. } | Step::W6 { .. } => self.loads(side),
             Step::P2 | Step::C2 => self.copies(side),
             Step::P3 => format!("stores head {}: the note is sent", self.after.head),
             Step::C3 { .. } => format!(
@@ -205,20 +206,6 @@ impl Scene<'_> {
         }
     }
 
-    fn side(&self) -> Option<Side> {
-        match self.event {
-            Event::Turn(side)
-            | Event::Fails(side, _)
-            | Event::Spurious(side)
-            | Event::TimeOut(side)
-            | Event::Close(side)
-            | Event::Shutdown(side) => Some(side),
-            Event::Push { .. } => Some(Side::Sender),
-            Event::Pop { .. } => Some(Side::Recorder),
-            Event::Meddles(_) => None,
-        }
-    }
-
     /// The step's name; a turn of a close or a shutdown is told by what it does.
     fn step(&self, side: Side) -> String {
         let turn = matches!(self.event, Event::Turn(_) | Event::Fails(..));
@@ -231,7 +218,7 @@ impl Scene<'_> {
     }
 
     fn told(&self, number: usize) -> String {
-        let Some(side) = self.side() else {
+        let Some(side) = self.event.side() else {
             return format!("{number:4}  stranger         {}\n", self.what());
         };
         let answer = match self.answer {

@@ -1,6 +1,6 @@
-//! The numbers of T2 and T4, and how often a bell is raised between a look and a wait.
+//! The numbers of T2, T4 and T9, and how often a bell is raised between a look and a wait.
 
-use super::bounds::{states, to_no_room, to_rest, Largest};
+use super::bounds::{states, to_no_room, to_rest, to_sleep, Largest};
 use super::machine::{Machine, State, Turns};
 use super::menu::Menu;
 use super::normal::raises;
@@ -12,6 +12,9 @@ use crate::words;
 
 /// T4's number.
 const SEVEN: u32 = 7;
+/// T9's numbers: from any step of a wait, and from the look.
+const NINE: u32 = 9;
+const SIX: u32 = 6;
 
 fn turns_words(largest: &Largest) -> String {
     match largest.turns {
@@ -45,7 +48,7 @@ fn row(report: &mut Report, name: &str, side: Side, largest: &Largest, bound: u3
     kept
 }
 
-/// T2 for each room and T4 of one side.
+/// T2 for each room, T4 and T9 of one side.
 fn rows(report: &mut Report, machine: &mut Machine, side: Side, menu: Menu) -> bool {
     let found = states(machine, menu);
     let mut kept = true;
@@ -55,7 +58,12 @@ fn rows(report: &mut Report, machine: &mut Machine, side: Side, menu: Menu) -> b
         kept &= row(report, &format!("T2, k = {room}"), side, &largest, bound);
     }
     let largest = to_rest(machine, &found, side, menu);
-    kept & row(report, "T4", side, &largest, SEVEN)
+    kept &= row(report, "T4", side, &largest, SEVEN);
+    let largest = to_sleep(machine, &found, side, |_| true);
+    kept &= row(report, "T9", side, &largest, NINE);
+    let look = |step| matches!(step, Step::P1 | Step::C1);
+    let largest = to_sleep(machine, &found, side, look);
+    kept & row(report, "T9, look", side, &largest, SIX)
 }
 
 /// The most own turns in every state that a menu leads to, in stretches by the same menu.

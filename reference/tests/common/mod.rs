@@ -100,6 +100,12 @@ impl House {
         u32::from_le_bytes(self.region[at..at + 4].try_into().unwrap())
     }
 
+    /// How many notes wait.
+    pub fn waiting(&self) -> u64 {
+        let tail = self.u64_at(Header::AT_TAIL);
+        self.u64_at(Header::AT_HEAD).wrapping_sub(tail)
+    }
+
     pub fn flags(&self) -> u32 {
         self.u32_at(Header::AT_FLAGS)
     }

@@ -8,7 +8,8 @@ door-move-spec =
     (tie.spec
     (λ c. search needs)
     (λ c. search needs)
+    (λ c κs. search needs)
     (λ c. search needs)
     (λ c. rw (c .enum-told .given .1))
-    (λ c. rw (c .enum-told2 .given .1))
+    (λ c. rw (c .before .enum-told2 .given .1) (c .left-move .ensures))
     (λ c. rw (c .enum-told3 .given .1)))

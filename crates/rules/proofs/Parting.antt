@@ -1,0 +1,111 @@
+-- A party that has closed stays out of push and pop, and only the other's close leads to the last look for it.
+use mathlib.Core.Path.{_≡_, refl}
+use mathlib.Core.Bool.{Bool, true, false}
+use mathlib.Core.Logic.{_⊎_, inl, inr}
+use Prim.Native.Nat.{ℕ}
+use native.Mathlib.Omega.{arith}
+use Rattle.types.specs.declared.Side.{Side}
+use Rattle.types.specs.declared.Door.{Door}
+use Rattle.types.specs.declared.Door.the-variants.{Left}
+use Rattle.types.specs.declared.Step.{Step}
+use Rattle.types.specs.declared.Step.the-variants.{LastLook}
+use Rattle.types.specs.declared.Access.{Access}
+use Rattle.rules.specs.Take.{stanceOf, closedAfter}
+use Rattle.rules.specs.Phase.{phase}
+use Rattle.rules.proofs.Does.{Does, nothing, looks, flags, reads as epoch, writes, takes, stores as store, raises as ring, closes as close, shuts as shut, waits as wait, wakes as wake}
+use Rattle.rules.proofs.Leads.{Leads, idles, finds, blocks, gives-up, copies, spills, tells, stores, owes, passes, raises, wakes, enters, stops, reads, finds-again, stays, enters-again, stops-again, returns, ends, dreams, glances, glances-again, times-out, finds-last, finds-none, closes, closes-alone, close-raises, close-wakes, shuts, shut-raises, shut-wakes, shut-raises-again, shut-wakes-again, sleeps as falls-asleep}
+use Rattle.rules.proofs.Real.{parts}
+
+-- a turn leads out of push and pop, not into them
+pub parts-on : (k x : ℕ) (z : Door) (m r : Bool) (b : ℕ) (s next : Step) → Leads k x z m r b s next → parts (phase s) ≡ true → parts (phase next) ≡ true
+parts-on k x z m r b s next idles e = refl
+parts-on k x z m r b s next (finds h) e = absurd (let u : _≡_ {A = ℕ} 0 1 = cc in omega arith)
+parts-on k x z m r b s next (blocks h q) e = absurd (let u : _≡_ {A = ℕ} 0 1 = cc in omega arith)
+parts-on k x z m r b s next (gives-up h q) e = absurd (let u : _≡_ {A = ℕ} 0 1 = cc in omega arith)
+parts-on k x z m r b s next copies e = absurd (let u : _≡_ {A = ℕ} 0 1 = cc in omega arith)
+parts-on k x z m r b s next spills e = absurd (let u : _≡_ {A = ℕ} 0 1 = cc in omega arith)
+parts-on k x z m r b s next (tells h) e = absurd (let u : _≡_ {A = ℕ} 0 1 = cc in omega arith)
+parts-on k x z m r b s next (stores h) e = absurd (let u : _≡_ {A = ℕ} 0 1 = cc in omega arith)
+parts-on k x z m r b s next (owes h) e = absurd (let u : _≡_ {A = ℕ} 0 1 = cc in omega arith)
+parts-on k x z m r b s next (passes h) e = absurd (let u : _≡_ {A = ℕ} 0 1 = cc in omega arith)
+parts-on k x z m r b s next raises e = absurd (let u : _≡_ {A = ℕ} 0 1 = cc in omega arith)
+parts-on k x z m r b s next wakes e = absurd (let u : _≡_ {A = ℕ} 0 1 = cc in omega arith)
+parts-on k x z m r b s next (enters h) e = absurd (let u : _≡_ {A = ℕ} 0 1 = cc in omega arith)
+parts-on k x z m r b s next (stops h) e = absurd (let u : _≡_ {A = ℕ} 0 1 = cc in omega arith)
+parts-on k x z m r b s next reads e = absurd (let u : _≡_ {A = ℕ} 0 1 = cc in omega arith)
+parts-on k x z m r b s next (finds-again h) e = absurd (let u : _≡_ {A = ℕ} 0 1 = cc in omega arith)
+parts-on k x z m r b s next (stays h) e = absurd (let u : _≡_ {A = ℕ} 0 1 = cc in omega arith)
+parts-on k x z m r b s next (enters-again h) e = absurd (let u : _≡_ {A = ℕ} 0 1 = cc in omega arith)
+parts-on k x z m r b s next (stops-again h) e = absurd (let u : _≡_ {A = ℕ} 0 1 = cc in omega arith)
+parts-on k x z m r b s next (falls-asleep h) e = absurd (let u : _≡_ {A = ℕ} 0 1 = cc in omega arith)
+parts-on k x z m r b s next returns e = absurd (let u : _≡_ {A = ℕ} 0 1 = cc in omega arith)
+parts-on k x z m r b s next ends e = absurd (let u : _≡_ {A = ℕ} 0 1 = cc in omega arith)
+parts-on k x z m r b s next dreams e = absurd (let u : _≡_ {A = ℕ} 0 1 = cc in omega arith)
+parts-on k x z m r b s next (glances h) e = absurd (let u : _≡_ {A = ℕ} 0 1 = cc in omega arith)
+parts-on k x z m r b s next (glances-again h) e = absurd (let u : _≡_ {A = ℕ} 0 1 = cc in omega arith)
+parts-on k x z m r b s next times-out e = absurd (let u : _≡_ {A = ℕ} 0 1 = cc in omega arith)
+parts-on k x z m r b s next (finds-last h) e = absurd (let u : _≡_ {A = ℕ} 0 1 = cc in omega arith)
+parts-on k x z m r b s next (finds-none h) e = absurd (let u : _≡_ {A = ℕ} 0 1 = cc in omega arith)
+parts-on k x z m r b s next (closes h) e = refl
+parts-on k x z m r b s next (closes-alone h) e = refl
+parts-on k x z m r b s next close-raises e = refl
+parts-on k x z m r b s next close-wakes e = refl
+parts-on k x z m r b s next shuts e = refl
+parts-on k x z m r b s next shut-raises e = refl
+parts-on k x z m r b s next shut-wakes e = refl
+parts-on k x z m r b s next shut-raises-again e = refl
+parts-on k x z m r b s next shut-wakes-again e = refl
+
+pub glances-left : (k x : ℕ) (z : Door) (m r : Bool) (b : ℕ) (s next : Step) → Leads k x z m r b s next → next ≡ LastLook false → z ≡ Left
+glances-left k x z m r b s next idles e = absurd (let u : _≡_ {A = ℕ} 0 1 = cc in omega arith)
+glances-left k x z m r b s next (finds h) e = absurd (let u : _≡_ {A = ℕ} 0 1 = cc in omega arith)
+glances-left k x z m r b s next (blocks h q) e = absurd (let u : _≡_ {A = ℕ} 0 1 = cc in omega arith)
+glances-left k x z m r b s next (gives-up h q) e = absurd (let u : _≡_ {A = ℕ} 0 1 = cc in omega arith)
+glances-left k x z m r b s next copies e = absurd (let u : _≡_ {A = ℕ} 0 1 = cc in omega arith)
+glances-left k x z m r b s next spills e = absurd (let u : _≡_ {A = ℕ} 0 1 = cc in omega arith)
+glances-left k x z m r b s next (tells h) e = absurd (let u : _≡_ {A = ℕ} 0 1 = cc in omega arith)
+glances-left k x z m r b s next (stores h) e = absurd (let u : _≡_ {A = ℕ} 0 1 = cc in omega arith)
+glances-left k x z m r b s next (owes h) e = absurd (let u : _≡_ {A = ℕ} 0 1 = cc in omega arith)
+glances-left k x z m r b s next (passes h) e = absurd (let u : _≡_ {A = ℕ} 0 1 = cc in omega arith)
+glances-left k x z m r b s next raises e = absurd (let u : _≡_ {A = ℕ} 0 1 = cc in omega arith)
+glances-left k x z m r b s next wakes e = absurd (let u : _≡_ {A = ℕ} 0 1 = cc in omega arith)
+glances-left k x z m r b s next (enters h) e = absurd (let u : _≡_ {A = ℕ} 0 1 = cc in omega arith)
+glances-left k x z m r b s next (stops h) e = absurd (let u : _≡_ {A = ℕ} 0 1 = cc in omega arith)
+glances-left k x z m r b s next reads e = absurd (let u : _≡_ {A = ℕ} 0 1 = cc in omega arith)
+glances-left k x z m r b s next (finds-again h) e = absurd (let u : _≡_ {A = ℕ} 0 1 = cc in omega arith)
+glances-left k x z m r b s next (stays h) e = absurd (let u : _≡_ {A = ℕ} 0 1 = cc in omega arith)
+glances-left k x z m r b s next (enters-again h) e = absurd (let u : _≡_ {A = ℕ} 0 1 = cc in omega arith)
+glances-left k x z m r b s next (stops-again h) e = absurd (let u : _≡_ {A = ℕ} 0 1 = cc in omega arith)
+glances-left k x z m r b s next (falls-asleep h) e = absurd (let u : _≡_ {A = ℕ} 0 1 = cc in omega arith)
+glances-left k x z m r b s next returns e = absurd (let u : _≡_ {A = ℕ} 0 1 = cc in omega arith)
+glances-left k x z m r b s next ends e = absurd (let u : _≡_ {A = ℕ} 0 1 = cc in omega arith)
+glances-left k x z m r b s next dreams e = absurd (let u : _≡_ {A = ℕ} 0 1 = cc in omega arith)
+glances-left k x z m r b s next (glances h) e = h
+glances-left k x z m r b s next (glances-again h) e = h
+glances-left k x z m r b s next times-out e = absurd (let u : _≡_ {A = ℕ} 0 1 = cc in omega arith)
+glances-left k x z m r b s next (finds-last h) e = absurd (let u : _≡_ {A = ℕ} 0 1 = cc in omega arith)
+glances-left k x z m r b s next (finds-none h) e = absurd (let u : _≡_ {A = ℕ} 0 1 = cc in omega arith)
+glances-left k x z m r b s next (closes h) e = absurd (let u : _≡_ {A = ℕ} 0 1 = cc in omega arith)
+glances-left k x z m r b s next (closes-alone h) e = absurd (let u : _≡_ {A = ℕ} 0 1 = cc in omega arith)
+glances-left k x z m r b s next close-raises e = absurd (let u : _≡_ {A = ℕ} 0 1 = cc in omega arith)
+glances-left k x z m r b s next close-wakes e = absurd (let u : _≡_ {A = ℕ} 0 1 = cc in omega arith)
+glances-left k x z m r b s next shuts e = absurd (let u : _≡_ {A = ℕ} 0 1 = cc in omega arith)
+glances-left k x z m r b s next shut-raises e = absurd (let u : _≡_ {A = ℕ} 0 1 = cc in omega arith)
+glances-left k x z m r b s next shut-wakes e = absurd (let u : _≡_ {A = ℕ} 0 1 = cc in omega arith)
+glances-left k x z m r b s next shut-raises-again e = absurd (let u : _≡_ {A = ℕ} 0 1 = cc in omega arith)
+glances-left k x z m r b s next shut-wakes-again e = absurd (let u : _≡_ {A = ℕ} 0 1 = cc in omega arith)
+
+-- one's own close is counted by its own turn alone
+pub closed-by : (side : Side) (n : ℕ) (s : Step) (a : Access) → Does side n s a → (b : Bool) → closedAfter (stanceOf s) b ≡ true → (b ≡ true) ⊎ (parts (phase s) ≡ true)
+closed-by side n s a (nothing l) b e = inl (rw (l .closed b) at e)
+closed-by side n s a (looks l) b e = inl (rw (l .closed b) at e)
+closed-by side n s a (flags l) b e = inl (rw (l .closed b) at e)
+closed-by side n s a epoch b e = inl e
+closed-by side n s a (writes q) b e = inl e
+closed-by side n s a (takes q) b e = inl e
+closed-by side n s a store b e = inl e
+closed-by side n s a (ring l c) b e = inl (rw (l .closed b) at e)
+closed-by side n s a close b e = inr refl
+closed-by side n s a shut b e = inl e
+closed-by side n s a wait b e = inl e
+closed-by side n s a (wake l c m) b e = inl (rw (l .closed b) at e)
