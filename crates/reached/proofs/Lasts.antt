@@ -8,13 +8,12 @@ use native.Mathlib.Omega.{arith}
 use lib.ListN.{length}
 use Rattle.types.specs.declared.Side.{Side}
 use Rattle.types.specs.declared.Side.the-variants.{Sender, Recorder}
-use Rattle.types.specs.declared.Bell.the-variants.{NotEmpty, NotFull}
 use Rattle.types.specs.declared.Party.{Party}
 use Rattle.types.specs.declared.Fault.the-variants.{Fine}
 use Rattle.types.specs.declared.Access.{Access}
 use Rattle.types.specs.declared.Door.{Door}
 use Rattle.types.specs.declared.Step.{Step}
-use Rattle.types.specs.declared.Step.the-variants.{Rest, Look, Copy, Publish, Check, Raise, Wake, Gate, Epoch, Again, GateAgain, Wait, Asleep, LastLook, CloseSet, CloseRaise, CloseWake, ShutSet, ShutRaiseNe, ShutWakeNe, ShutRaiseNf, ShutWakeNf}
+use Rattle.types.specs.declared.Step.the-variants.{Epoch}
 use Rattle.rules.specs.Sides.{other}
 use Rattle.rules.specs.Take.{stanceOf, closedAfter}
 use Rattle.rules.specs.Next.{nextAt}
@@ -23,7 +22,7 @@ use Rattle.rules.specs.Premises.{FairTurn}
 use Rattle.rules.specs.Stretch.{Big, notesOf, beforeCopy, holdsEpoch, Underway}
 use Rattle.rules.specs.Phase.{phase}
 use Rattle.rules.proofs.Leads.{Leads, idles, finds, blocks, gives-up, copies, spills, tells, stores, owes, passes, raises, wakes, enters, stops, reads, finds-again, stays, enters-again, stops-again, returns, ends, dreams, glances, glances-again, times-out, finds-last, finds-none, closes, closes-alone, close-raises, close-wakes, shuts, shut-raises, shut-wakes, shut-raises-again, shut-wakes-again, sleeps as falls-asleep}
-use Rattle.rules.proofs.Does.{Does, nothing, looks, flags, writes, reads as epoch, takes as take-slot, stores as store, raises as ring, closes as close, shuts as shut, waits as wait, wakes as wake}
+use Rattle.rules.proofs.Does.{Does, does, nothing, looks, flags, writes, reads as epoch, takes as take-slot, stores as store, raises as ring, closes as close, shuts as shut, waits as wait, wakes as wake}
 use Rattle.rules.proofs.Own.{waitsOn}
 use Rattle.rules.proofs.Costs.{Calls}
 
@@ -109,28 +108,21 @@ epoch-on k x z m r b s next shut-wakes-again e = absurd (let u : _≡_ {A = ℕ}
 
 -- a push or a pop does not close its party
 pub stays-open : (s : Step) → Calls (phase s) → (b : Bool) → closedAfter (stanceOf s) b ≡ b
-stays-open Rest y b = refl
-stays-open Look y b = refl
-stays-open Copy y b = refl
-stays-open (Publish l t) y b = refl
-stays-open (Check l t) y b = refl
-stays-open (Raise l t) y b = refl
-stays-open (Wake l t) y b = refl
-stays-open Gate y b = refl
-stays-open Epoch y b = refl
-stays-open (Again e) y b = refl
-stays-open (GateAgain e) y b = refl
-stays-open (Wait e) y b = refl
-stays-open Asleep y b = refl
-stays-open (LastLook c) y b = refl
-stays-open CloseSet y b = absurd y
-stays-open CloseRaise y b = refl
-stays-open CloseWake y b = refl
-stays-open (ShutSet c) y b = refl
-stays-open (ShutRaiseNe c) y b = refl
-stays-open (ShutWakeNe c) y b = refl
-stays-open (ShutRaiseNf c e) y b = refl
-stays-open (ShutWakeNf c e) y b = refl
+stays-open s y b = by s (nextAt s Sender 0) (does Sender 0 s) y
+  where
+    by : (s : Step) (a : Access) → Does Sender 0 s a → Calls (phase s) → closedAfter (stanceOf s) b ≡ b
+    by s a (nothing l) y = l .closed b
+    by s a (looks l) y = l .closed b
+    by s a (flags l) y = l .closed b
+    by s a epoch y = refl
+    by s a (writes q) y = refl
+    by s a (take-slot q) y = refl
+    by s a store y = refl
+    by s a (ring l c) y = l .closed b
+    by s a close y = absurd y
+    by s a shut y = refl
+    by s a wait y = refl
+    by s a (wake l c m) y = l .closed b
 
 module _ (p : Party) (payload buffer : List ℕ) (t : Trace) where
   -- the epoch's turn counts anew

@@ -40,7 +40,8 @@ use Rattle.rules.proofs.Own.{waitsOn}
 use Rattle.rules.proofs.Costs.{Calls, calls-on}
 use Rattle.rules.proofs.Effects.{rung-own}
 use Rattle.rules.proofs.Listening.{mover-is, trace-is}
-use Rattle.rules.proofs.Bound.{Kind, rests, dreams as asleep, acts, kind, notes-kept, notes-own, no-store}
+use Rattle.rules.proofs.Views.{Kind, rests, dreams as asleep, acts, kind}
+use Rattle.rules.proofs.Bound.{notes-kept, notes-own, no-store}
 use Rattle.rules.proofs.Asks.{in-call, typed-both, fair-both}
 use Rattle.rules.proofs.Sized.{blankOf, Sized, sized-turn, sized-happens, sized-run, sized-start, nothing-fits, sound-here, takes-here}
 use Rattle.rules.proofs.Real.{roomIn, nth, blank, Real}

@@ -16,7 +16,7 @@ use Rattle.types.specs.declared.Fault.{Fault}
 use Rattle.types.specs.declared.Fault.the-variants.{Fine, Error}
 use Rattle.types.specs.declared.Event.the-variants.{Turn, Failing, Spurious, TimeOut, Push, Pop, Close, Shutdown}
 use Rattle.types.specs.declared.Step.{Step}
-use Rattle.types.specs.declared.Step.the-variants.{Rest, Look, Copy, Publish, Check, Raise, Wake, Gate, Epoch, Again, GateAgain, Wait, Asleep, LastLook, CloseSet, CloseRaise, CloseWake, ShutSet, ShutRaiseNe, ShutWakeNe, ShutRaiseNf, ShutWakeNf}
+use Rattle.types.specs.declared.Step.the-variants.{Rest, Look, Asleep, LastLook}
 use Rattle.types.specs.declared.Stance.{Stance}
 use Rattle.layout.specs.Limits.{powerOk, slotOk, payloadCapacity, capacity}
 use Rattle.layout.specs.Header.{flagsAt}
@@ -88,28 +88,7 @@ asked-cost s u (suc k) x glances (inl e) = rw e (omega arith)
 asked-cost s u (suc k) x glances (inr e) = rw e (omega arith)
 
 pub in-call : (s : Step) → inCall s ≡ true → Calls (phase s)
-in-call Rest e = tt
-in-call Look e = tt
-in-call Copy e = tt
-in-call (Publish l t) e = tt
-in-call (Check l t) e = tt
-in-call (Raise l t) e = tt
-in-call (Wake l t) e = tt
-in-call Gate e = tt
-in-call Epoch e = tt
-in-call (Again f) e = tt
-in-call (GateAgain f) e = tt
-in-call (Wait f) e = tt
-in-call Asleep e = tt
-in-call (LastLook c) e = tt
-in-call CloseSet e = absurd (let z : _≡_ {A = ℕ} 0 1 = cc in omega arith)
-in-call CloseRaise e = absurd (let z : _≡_ {A = ℕ} 0 1 = cc in omega arith)
-in-call CloseWake e = absurd (let z : _≡_ {A = ℕ} 0 1 = cc in omega arith)
-in-call (ShutSet c) e = absurd (let z : _≡_ {A = ℕ} 0 1 = cc in omega arith)
-in-call (ShutRaiseNe c) e = absurd (let z : _≡_ {A = ℕ} 0 1 = cc in omega arith)
-in-call (ShutWakeNe c) e = absurd (let z : _≡_ {A = ℕ} 0 1 = cc in omega arith)
-in-call (ShutRaiseNf c f) e = absurd (let z : _≡_ {A = ℕ} 0 1 = cc in omega arith)
-in-call (ShutWakeNf c f) e = absurd (let z : _≡_ {A = ℕ} 0 1 = cc in omega arith)
+in-call s e = rw e tt
 
 module _ (P S v : ℕ) (on : Bool) where
   -- a call of one's own

@@ -5,7 +5,6 @@ use mathlib.Core.List.{List}
 use Prim.Native.Nat.{ℕ, zero, suc, _+_, _-_, _<_, _≤_}
 use native.Mathlib.Omega.{arith}
 use lib.ListN.{length}
-use Rattle.words.specs.Le.{leAt}
 use Rattle.types.specs.Pick.{pick}
 use Rattle.types.specs.declared.Side.{Side}
 use Rattle.types.specs.declared.Side.the-variants.{Sender, Recorder}
@@ -14,12 +13,11 @@ use Rattle.types.specs.declared.Party.{Party}
 use Rattle.types.specs.declared.Fault.{Fault}
 use Rattle.types.specs.declared.Door.{Door}
 use Rattle.types.specs.declared.Step.{Step}
-use Rattle.types.specs.declared.Step.the-variants.{Rest, Look, Copy, Publish, Check, Raise, Wake, Gate, Epoch, Again, GateAgain, Wait, Asleep, LastLook, CloseSet, CloseRaise, CloseWake, ShutSet, ShutRaiseNe, ShutWakeNe, ShutRaiseNf, ShutWakeNf}
+use Rattle.types.specs.declared.Step.the-variants.{Rest, Copy, Publish, Asleep}
 use Rattle.types.specs.declared.Stance.{Stance}
 use Rattle.types.specs.declared.Stance.the-variants.{Resting, Sleeping, Copying, Publishing, Closing, Moving}
 use Rattle.types.specs.declared.Access.{Access}
 use Rattle.layout.specs.Limits.{powerOk, slotOk}
-use Rattle.layout.specs.Header.{flagsAt}
 use Rattle.rules.specs.Sides.{other}
 use Rattle.rules.specs.Take.{stanceOf, stepAfter, moveAt, moveOf}
 use Rattle.rules.specs.Next.{nextAt, nextSpec}
@@ -28,8 +26,9 @@ use Rattle.rules.specs.Turn.{errorOf}
 use Rattle.rules.specs.Run.{Note, Trace, World, partyIn, takes, traced}
 use Rattle.rules.specs.Stretch.{moves, calling, countsBy, Big, notesOf}
 use Rattle.rules.specs.Phase.{phase}
+use Rattle.rules.proofs.Views.{Kind, rests, dreams, acts, kind}
 use Rattle.rules.proofs.Leads.{Leads}
-use Rattle.rules.proofs.Does.{Does, does, nothing, looks, flags, reads, writes, takes as read, stores, raises, closes, shuts, waits as wait, wakes}
+use Rattle.rules.proofs.Does.{ownAfter, Does, does, nothing, looks, flags, reads, writes, takes as read, stores, raises, closes, shuts, waits as wait, wakes}
 use Rattle.rules.proofs.Taken.{turnWorld, turn-refused}
 use Rattle.rules.proofs.RealTurn.{own-is, counter-is, access-is, next-step, leads-here, after-turn, turn-is-after}
 use Rattle.rules.proofs.Heard.{Cause, none, duty, roomBy}
@@ -38,36 +37,6 @@ use Rattle.rules.proofs.Effects.{room-own-is, room-other-is}
 use Rattle.rules.proofs.Listening.{duty-kept, mover-is, waiter-is, trace-is}
 use Rattle.rules.proofs.Fits.{no-spill}
 use Rattle.rules.proofs.Real.{roomIn, HasRoom, Real}
-
--- the two steps that no turn leads on from, and the others
-pub data Kind : Step → Type 0 where
-  rests : Kind Rest
-  dreams : Kind Asleep
-  acts : {s : Step} → moves (stanceOf s) ≡ true → Kind s
-
-pub kind : (s : Step) → Kind s
-kind Rest = rests
-kind Look = acts refl
-kind Copy = acts refl
-kind (Publish l t) = acts refl
-kind (Check l t) = acts refl
-kind (Raise l t) = acts refl
-kind (Wake l t) = acts refl
-kind Gate = acts refl
-kind Epoch = acts refl
-kind (Again f) = acts refl
-kind (GateAgain f) = acts refl
-kind (Wait f) = acts refl
-kind Asleep = dreams
-kind (LastLook c) = acts refl
-kind CloseSet = acts refl
-kind CloseRaise = acts refl
-kind CloseWake = acts refl
-kind (ShutSet c) = acts refl
-kind (ShutRaiseNe c) = acts refl
-kind (ShutWakeNe c) = acts refl
-kind (ShutRaiseNf c f) = acts refl
-kind (ShutWakeNf c f) = acts refl
 
 pub moves-off : (s u : Step) → moves (stanceOf s) ≡ true → moves (stanceOf u) ≡ false → s ≡ u → ⊥
 moves-off s u a b e =
@@ -84,28 +53,15 @@ moves-call Moving e = refl
 
 -- no room stays no room
 pub own-room-none : (s : Step) → ownRoom s 0 ≡ 0
-own-room-none Rest = refl
-own-room-none Look = refl
-own-room-none Copy = refl
-own-room-none (Publish l t) = refl
-own-room-none (Check l t) = refl
-own-room-none (Raise l t) = refl
-own-room-none (Wake l t) = refl
-own-room-none Gate = refl
-own-room-none Epoch = refl
-own-room-none (Again e) = refl
-own-room-none (GateAgain e) = refl
-own-room-none (Wait e) = refl
-own-room-none Asleep = refl
-own-room-none (LastLook c) = refl
-own-room-none CloseSet = refl
-own-room-none CloseRaise = refl
-own-room-none CloseWake = refl
-own-room-none (ShutSet c) = refl
-own-room-none (ShutRaiseNe c) = refl
-own-room-none (ShutWakeNe c) = refl
-own-room-none (ShutRaiseNf c e) = refl
-own-room-none (ShutWakeNf c e) = refl
+own-room-none s = by (stanceOf s)
+  where
+    by : (u : Stance) → ownAfter u 0 ≡ 0
+    by Resting = refl
+    by Sleeping = refl
+    by Copying = refl
+    by Publishing = refl
+    by Closing = refl
+    by Moving = refl
 
 cost-zero : (s next : Step) (x : ℕ) → cost next (ownRoom s 0) x ≡ 0
 cost-zero s next x = ap (λ (k : ℕ). cost next k x) (own-room-none s)
@@ -140,61 +96,47 @@ turn-cost counted count (suc k) x z m r b n s next leads (acts move) c i a j f h
 -- a turn changes its own party's notes alone
 module _ (p : Party) (payload buffer : List ℕ) (t : Trace) where
   pub notes-kept : (side : Side) (n : ℕ) (s : Step) (a : Access) → Does side n s a → notesOf (other side) (traced a p payload buffer t) ≡ notesOf (other side) t
-  notes-kept Sender n s a (nothing l) = refl
-  notes-kept Sender n s a (looks l) = refl
-  notes-kept Sender n s a (flags l) = refl
+  notes-kept side n s a (nothing l) = refl
+  notes-kept side n s a (looks l) = refl
+  notes-kept side n s a (flags l) = refl
   notes-kept Sender n s a reads = refl
   notes-kept Sender n s a (writes e) = refl
   notes-kept Sender n s a (read e) = refl
   notes-kept Sender n s a stores = refl
   notes-kept Sender n s a (raises l NotEmpty) = refl
   notes-kept Sender n s a (raises l NotFull) = refl
-  notes-kept Sender n s a closes = refl
-  notes-kept Sender n s a shuts = refl
-  notes-kept Sender n s a wait = refl
-  notes-kept Sender n s a (wakes l b m) = refl
-  notes-kept Recorder n s a (nothing l) = refl
-  notes-kept Recorder n s a (looks l) = refl
-  notes-kept Recorder n s a (flags l) = refl
+  notes-kept side n s a closes = refl
+  notes-kept side n s a shuts = refl
+  notes-kept side n s a wait = refl
+  notes-kept side n s a (wakes l b m) = refl
   notes-kept Recorder n s a reads = refl
   notes-kept Recorder n s a (writes e) = refl
   notes-kept Recorder n s a (read e) = refl
   notes-kept Recorder n s a stores = refl
   notes-kept Recorder n s a (raises l NotEmpty) = refl
   notes-kept Recorder n s a (raises l NotFull) = refl
-  notes-kept Recorder n s a closes = refl
-  notes-kept Recorder n s a shuts = refl
-  notes-kept Recorder n s a wait = refl
-  notes-kept Recorder n s a (wakes l b m) = refl
 
   -- and its own where it stores its counter alone
   pub notes-own : (side : Side) (n : ℕ) (s : Step) (a : Access) → Does side n s a → ((l g : ℕ) → s ≡ Publish l g → ⊥) → notesOf side (traced a p payload buffer t) ≡ notesOf side t
-  notes-own Sender n s a (nothing l) h = refl
-  notes-own Sender n s a (looks l) h = refl
-  notes-own Sender n s a (flags l) h = refl
+  notes-own side n s a (nothing l) h = refl
+  notes-own side n s a (looks l) h = refl
+  notes-own side n s a (flags l) h = refl
   notes-own Sender n s a reads h = refl
   notes-own Sender n s a (writes e) h = refl
   notes-own Sender n s a (read e) h = refl
   notes-own Sender n s a stores h = absurd (h _ _ refl)
   notes-own Sender n s a (raises l NotEmpty) h = refl
   notes-own Sender n s a (raises l NotFull) h = refl
-  notes-own Sender n s a closes h = refl
-  notes-own Sender n s a shuts h = refl
-  notes-own Sender n s a wait h = refl
-  notes-own Sender n s a (wakes l b m) h = refl
-  notes-own Recorder n s a (nothing l) h = refl
-  notes-own Recorder n s a (looks l) h = refl
-  notes-own Recorder n s a (flags l) h = refl
+  notes-own side n s a closes h = refl
+  notes-own side n s a shuts h = refl
+  notes-own side n s a wait h = refl
+  notes-own side n s a (wakes l b m) h = refl
   notes-own Recorder n s a reads h = refl
   notes-own Recorder n s a (writes e) h = refl
   notes-own Recorder n s a (read e) h = refl
   notes-own Recorder n s a stores h = absurd (h _ _ refl)
   notes-own Recorder n s a (raises l NotEmpty) h = refl
   notes-own Recorder n s a (raises l NotFull) h = refl
-  notes-own Recorder n s a closes h = refl
-  notes-own Recorder n s a shuts h = refl
-  notes-own Recorder n s a wait h = refl
-  notes-own Recorder n s a (wakes l b m) h = refl
 
 -- a step that is told from a store by any test
 pub no-store : (F : Step → Bool) (s : Step) → F s ≡ true → ((l g : ℕ) → F (Publish l g) ≡ false) → (l g : ℕ) → s ≡ Publish l g → ⊥

@@ -2,15 +2,13 @@
 use mathlib.Core.Path.{_≡_, refl, sym, ap, _∙_}
 use mathlib.Core.Bool.{Bool, true}
 use mathlib.Core.List.{List, _++_}
-use mathlib.Core.Logic.{_⊎_, inl, inr}
 use Prim.Native.Nat.{ℕ, _+_, _^_, _<_, _≤_}
 use native.Mathlib.Omega.{arith}
 use lib.ListN.{length, drop, length-append}
 use lib.Seq.{take-at}
 use Rattle.words.specs.Wrap.{plus}
 use Rattle.types.specs.declared.Side.the-variants.{Sender, Recorder}
-use Rattle.types.specs.declared.Step.{Step}
-use Rattle.types.specs.declared.Step.the-variants.{Rest, Look, Copy, Publish, Check, Raise, Wake, Gate, Epoch, Again, GateAgain, Wait, Asleep, LastLook, CloseSet, CloseRaise, CloseWake, ShutSet, ShutRaiseNe, ShutWakeNe, ShutRaiseNf, ShutWakeNf}
+use Rattle.types.specs.declared.Step.the-variants.{Copy}
 use Rattle.types.specs.declared.SlotHead.{SlotHead}
 use Rattle.types.specs.declared.Own.{Own}
 use Rattle.types.specs.declared.Fit.{Fit}
@@ -28,31 +26,6 @@ use Rattle.rules.specs.Run.{Note, Trace, buffered}
 use Rattle.rules.specs.Phase.{phase}
 use Rattle.rules.proofs.FitLaws.{fit-good}
 use Rattle.rules.proofs.Real.{sizes, nth, noteHead, HoldsAt, InHand, Fixed}
-
--- a step is the copy or is not
-pub is-copy : (s : Step) → (s ≡ Copy) ⊎ (s ≡ Copy → ⊥)
-is-copy Rest = inr (λ e. let z : _≡_ {A = ℕ} 0 1 = cc in omega arith)
-is-copy Look = inr (λ e. let z : _≡_ {A = ℕ} 0 1 = cc in omega arith)
-is-copy Copy = inl refl
-is-copy (Publish l g) = inr (λ e. let z : _≡_ {A = ℕ} 0 1 = cc in omega arith)
-is-copy (Check l g) = inr (λ e. let z : _≡_ {A = ℕ} 0 1 = cc in omega arith)
-is-copy (Raise l g) = inr (λ e. let z : _≡_ {A = ℕ} 0 1 = cc in omega arith)
-is-copy (Wake l g) = inr (λ e. let z : _≡_ {A = ℕ} 0 1 = cc in omega arith)
-is-copy Gate = inr (λ e. let z : _≡_ {A = ℕ} 0 1 = cc in omega arith)
-is-copy Epoch = inr (λ e. let z : _≡_ {A = ℕ} 0 1 = cc in omega arith)
-is-copy (Again n) = inr (λ e. let z : _≡_ {A = ℕ} 0 1 = cc in omega arith)
-is-copy (GateAgain n) = inr (λ e. let z : _≡_ {A = ℕ} 0 1 = cc in omega arith)
-is-copy (Wait n) = inr (λ e. let z : _≡_ {A = ℕ} 0 1 = cc in omega arith)
-is-copy Asleep = inr (λ e. let z : _≡_ {A = ℕ} 0 1 = cc in omega arith)
-is-copy (LastLook c) = inr (λ e. let z : _≡_ {A = ℕ} 0 1 = cc in omega arith)
-is-copy CloseSet = inr (λ e. let z : _≡_ {A = ℕ} 0 1 = cc in omega arith)
-is-copy CloseRaise = inr (λ e. let z : _≡_ {A = ℕ} 0 1 = cc in omega arith)
-is-copy CloseWake = inr (λ e. let z : _≡_ {A = ℕ} 0 1 = cc in omega arith)
-is-copy (ShutSet q) = inr (λ e. let z : _≡_ {A = ℕ} 0 1 = cc in omega arith)
-is-copy (ShutRaiseNe q) = inr (λ e. let z : _≡_ {A = ℕ} 0 1 = cc in omega arith)
-is-copy (ShutWakeNe q) = inr (λ e. let z : _≡_ {A = ℕ} 0 1 = cc in omega arith)
-is-copy (ShutRaiseNf q n) = inr (λ e. let z : _≡_ {A = ℕ} 0 1 = cc in omega arith)
-is-copy (ShutWakeNf q n) = inr (λ e. let z : _≡_ {A = ℕ} 0 1 = cc in omega arith)
 
 module _ (P S v : ℕ) (on : Bool) (power-ok : powerOk P ≡ true) (slot-ok : slotOk S ≡ true) (r : List ℕ) (fixed : Fixed P S v on r) (t : Trace) where
   slot-in : (c : ℕ) → slotAt P S c + S ≤ length r

@@ -3,10 +3,14 @@ use mathlib.Core.Path.{_≡_, refl}
 use mathlib.Core.Bool.{Bool}
 use Prim.Native.Nat.{ℕ, zero, suc, _+_, _*_, _-_, _≤_}
 use native.Mathlib.Omega.{arith}
+use lib.Dec.{T}
 use Rattle.types.specs.declared.Door.{Door}
 use Rattle.types.specs.declared.Step.{Step}
 use Rattle.types.specs.declared.Step.the-variants.{Rest, Look, Copy, Publish, Check, Raise, Wake, Gate, Epoch, Again, GateAgain, Wait, Asleep, LastLook, CloseSet, CloseRaise, CloseWake, ShutSet, ShutRaiseNe, ShutWakeNe, ShutRaiseNf, ShutWakeNf}
-use Rattle.rules.specs.Phase.{Phase, resting, looking, copying, publishing, telling, asking, armed, poised, waits, sleeps, glancing, leaving, phase}
+use Rattle.rules.specs.Take.{stanceOf}
+use Rattle.rules.specs.Stretch.{inCallAt}
+use Rattle.rules.specs.Phase.{Phase, phase}
+use Rattle.rules.proofs.Does.{less, ownAfter}
 use Rattle.rules.proofs.Leads.{Leads, idles, finds, blocks, gives-up, copies, spills, tells, stores, owes, passes, raises, wakes, enters, stops, reads, finds-again, stays, enters-again, stops-again, returns, ends, dreams, glances, glances-again, times-out, finds-last, finds-none, closes, closes-alone, close-raises, close-wakes, shuts, shut-raises, shut-wakes, shut-raises-again, shut-wakes-again, sleeps as falls-asleep}
 use Rattle.rules.proofs.Heard.{roomBy}
 
@@ -14,10 +18,6 @@ use Rattle.rules.proofs.Heard.{roomBy}
 abbrev pub extra : ℕ → ℕ
 extra zero = 2
 extra (suc x) = 0
-
-abbrev pub less : ℕ → ℕ
-less zero = zero
-less (suc x) = x
 
 -- the turns before the next store; x is the other's room
 abbrev pub ahead : Step → ℕ → ℕ
@@ -87,43 +87,11 @@ cost-none s (suc k) x h = absurd (omega arith)
 
 -- in a push or a pop, or between calls
 abbrev pub Calls : Phase → Type 0
-Calls resting = Unit
-Calls looking = Unit
-Calls copying = Unit
-Calls (publishing u t) = Unit
-Calls (telling u t) = Unit
-Calls asking = Unit
-Calls (armed e) = Unit
-Calls (poised e) = Unit
-Calls (waits e) = Unit
-Calls sleeps = Unit
-Calls glancing = Unit
-Calls leaving = ⊥
+Calls ph = T (inCallAt ph)
 
 -- the own room after a turn
 abbrev pub ownRoom : Step → ℕ → ℕ
-ownRoom Rest k = k
-ownRoom Look k = k
-ownRoom Copy k = k
-ownRoom (Publish l g) k = less k
-ownRoom (Check l g) k = k
-ownRoom (Raise l g) k = k
-ownRoom (Wake l g) k = k
-ownRoom Gate k = k
-ownRoom Epoch k = k
-ownRoom (Again e) k = k
-ownRoom (GateAgain e) k = k
-ownRoom (Wait e) k = k
-ownRoom Asleep k = k
-ownRoom (LastLook c) k = k
-ownRoom CloseSet k = k
-ownRoom CloseRaise k = k
-ownRoom CloseWake k = k
-ownRoom (ShutSet c) k = k
-ownRoom (ShutRaiseNe c) k = k
-ownRoom (ShutWakeNe c) k = k
-ownRoom (ShutRaiseNf c f) k = k
-ownRoom (ShutWakeNf c f) k = k
+ownRoom s k = ownAfter (stanceOf s) k
 
 stored-cost : (l t k x : ℕ) → suc (cost (Check l t) k (suc x)) ≤ cost (Publish l t) (suc k) x
 stored-cost l t zero x = omega arith

@@ -28,6 +28,7 @@ use Rattle.rules.specs.Bench.{settled, played, playedLeaves}
 use Rattle.rules.specs.Run.{World, Happening, attaches, plays, partyIn, takes, happens, run, opened}
 use Rattle.rules.specs.Stretch.{moves, countsBy, ticks, inWait, Turns}
 use Rattle.rules.specs.Claims.{Fresh, reached, FallsAsleep}
+use Rattle.rules.proofs.Views.{Kind, rests, dreams as asleep, acts, kind}
 use Rattle.rules.proofs.After.{bell-after}
 use Rattle.rules.proofs.Kept.{header-in}
 use Rattle.rules.proofs.Leads.{stopAt, stop-barred, open-door, Leads}
@@ -35,14 +36,15 @@ use Rattle.rules.proofs.Taken.{turnWorld, turn-refused}
 use Rattle.rules.proofs.Seats.{moved}
 use Rattle.rules.proofs.RealTurn.{access-is, next-step, leads-here, after-turn, turn-is-after, real-turned}
 use Rattle.rules.proofs.RealRun.{power-fits, slot-fits, real-reached}
-use Rattle.rules.proofs.Costs.{less, ownRoom}
+use Rattle.rules.proofs.Does.{less}
+use Rattle.rules.proofs.Costs.{ownRoom}
 use Rattle.rules.proofs.Effects.{room-own-is, flags-still}
 use Rattle.rules.proofs.Listening.{mover-is, trace-is, flags-left}
 use Rattle.rules.proofs.Causes.{room-is}
-use Rattle.rules.proofs.Bound.{Kind, rests, dreams as asleep, acts, kind, own-room-none}
+use Rattle.rules.proofs.Bound.{own-room-none}
 use Rattle.rules.proofs.Asks.{run-parts}
 use Rattle.rules.proofs.Real.{roomIn, Real}
-use Rattle.rules.proofs.UntilSleep.{drowse, nap-step, nine, slept, toSleep, wait-bell, wait-stores-none}
+use Rattle.rules.proofs.UntilSleep.{drowse, nap-step, near-sleep, toSleep, wait-bell, wait-stores-none}
 
 module _ (P S v : ℕ) (on : Bool) (power-ok : powerOk P ≡ true) (slot-ok : slotOk S ≡ true) where
   abbrev bell : Side → World → ℕ
@@ -122,7 +124,7 @@ module _ (P S v : ℕ) (on : Bool) (power-ok : powerOk P ≡ true) (slot-ok : sl
   not-slept b s w move = by (toSleep b s) refl
     where
       by : (x : ℕ) → toSleep b s ≡ x → 0 < toSleep b s
-      by zero e = absurd (let q : s ≡ Asleep = slept b s w (omega arith) in let u : false ≡ true = sym (ap (λ (x : Step). moves (stanceOf x)) q) ∙ move in let z : _≡_ {A = ℕ} 0 1 = cc in omega arith)
+      by zero e = absurd (let q : s ≡ Asleep = near-sleep b s .slept w (omega arith) in let u : false ≡ true = sym (ap (λ (x : Step). moves (stanceOf x)) q) ∙ move in let z : _≡_ {A = ℕ} 0 1 = cc in omega arith)
       by (suc x) e = omega arith
 
   one-turn : (side : Side) (w : World) (n : ℕ) → Drowsy side n w → (payload lent : List ℕ) → moves (stanceOf (partyIn w side .step)) ≡ true
@@ -146,7 +148,7 @@ module _ (P S v : ℕ) (on : Bool) (power-ok : powerOk P ≡ true) (slot-ok : sl
 
   sleeping-run : (side : Side) (ms : List Happening) (w : World) → Turns side ms → (n : ℕ) → Drowsy side n w → n ≤ ticks ms w → Slept side ms n w
   unfolding run happens played playedLeaves settled
-  sleeping-run side [] w m n d l = ([], ([], (refl, (omega arith, slept (bell side w) (partyIn w side .step) (d .waits) (omega (arith, d .left))))))
+  sleeping-run side [] w m n d l = ([], ([], (refl, (omega arith, near-sleep (bell side w) (partyIn w side .step) .slept (d .waits) (omega (arith, d .left))))))
   sleeping-run side (attaches mover ∷ ms) w m n d l = absurd m
   sleeping-run side (plays (Turn mover) i o ∷ ms) w m n d l =
       subst (λ (τ : Side). n ≤ ticks (plays (Turn τ) i o ∷ ms) w → Slept side (plays (Turn τ) i o ∷ ms) n w) (sym (m .0))
@@ -193,14 +195,14 @@ module _ (r : List ℕ) (P S : ℕ) (on : Bool) (v : ℕ) (fresh : Fresh r P S o
         waits = waits;
         left = omega arith;
       } in
-      let done = sleeping-run P S v on pow slo side ms w turns (toSleep b s) start (omega (arith, nine b s)) in (
+      let done = sleeping-run P S v on pow slo side ms w turns (toSleep b s) start (omega (arith, near-sleep b s .nine)) in (
         done .0,
         (
           done .1 .0,
           (
             done .1 .1 .0,
             (
-              omega (arith, done .1 .1 .1 .0, nine b s),
+              omega (arith, done .1 .1 .1 .0, near-sleep b s .nine),
               (
                 λ e. omega (arith, done .1 .1 .1 .0, from-look b s e),
                 subst (λ (u : World). partyIn u side .step ≡ Asleep) (sym (run-parts hs (done .0) (opened (created r P S on v)))) (done .1 .1 .1 .1),

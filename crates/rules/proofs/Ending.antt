@@ -22,9 +22,9 @@ use Rattle.types.specs.declared.Side.the-variants.{Sender, Recorder}
 use Rattle.types.specs.declared.Access.{Access}
 use Rattle.layout.specs.Limits.{powerOk, slotOk}
 use Rattle.layout.specs.Flags.{worth, reservedFrom, bitOn, closeMark}
-use Rattle.layout.specs.Header.{flagsAt, bellAt}
+use Rattle.layout.specs.Header.{flagsAt}
 use Rattle.layout.specs.Create.{created}
-use Rattle.rules.specs.Sides.{other, rings, sleepBell}
+use Rattle.rules.specs.Sides.{other, rings}
 use Rattle.rules.specs.Take.{stanceOf}
 use Rattle.rules.specs.Next.{nextAt}
 use Rattle.rules.specs.Access.{bufferOf}
@@ -34,6 +34,7 @@ use Rattle.rules.specs.Run.{World, Happening, attaches, plays, partyIn, 
 use Rattle.rules.specs.Premises.{Typed, AllTyped, AllFair}
 use Rattle.rules.specs.Stretch.{moves, calling, countsBy, tickBy, ticksBy, OwnDoing, AllOwn}
 use Rattle.rules.specs.Claims.{Fresh, reached, Stopped, AtRest, EndsTicks, Ends}
+use Rattle.rules.proofs.Views.{Kind, rests, dreams, acts, kind}
 use Rattle.rules.proofs.After.{flagsBy}
 use Rattle.rules.proofs.Kept.{flag-up}
 use Rattle.rules.proofs.Leads.{stopAt, stop-barred}
@@ -42,13 +43,14 @@ use Rattle.rules.proofs.RealTurn.{next-step, leads-here, after-turn, tu
 use Rattle.rules.proofs.RealCalls.{Idle, rests as at-rest, looks, glances, closes, shuts, Changed, seat-same, seat-one, seat-two, seated, push-changes, pop-changes, close-changes, shut-changes, spurious-changes, timeout-changes}
 use Rattle.rules.proofs.RealRun.{power-fits, slot-fits, real-reached, real-happens}
 use Rattle.rules.proofs.Heard.{Cause, none, duty}
-use Rattle.rules.proofs.Costs.{less, ownRoom}
+use Rattle.rules.proofs.Does.{less}
+use Rattle.rules.proofs.Costs.{ownRoom}
 use Rattle.rules.proofs.Effects.{room-own-is}
-use Rattle.rules.proofs.Nearer.{toRest, room-le, seven, rested, nearer}
+use Rattle.rules.proofs.Nearer.{toRest, room-le, near, nearer}
 use Rattle.rules.proofs.Listening.{duty-kept, mover-is, waiter-is, trace-is, flags-left}
 use Rattle.rules.proofs.Fairly.{Ready, ready-happens, quiet-duty, dozes}
 use Rattle.rules.proofs.Causes.{ready-reached}
-use Rattle.rules.proofs.Bound.{Count, by-moves, by-calling, Kind, rests, dreams, acts, kind, moves-off, dreams-on}
+use Rattle.rules.proofs.Bound.{Count, by-moves, by-calling, moves-off, dreams-on}
 use Rattle.rules.proofs.Asks.{run-parts, typed-parts, fair-parts}
 use Rattle.rules.proofs.Real.{roomIn, Real}
 
@@ -71,7 +73,7 @@ one-less : (s : Step) (k then : ℕ) → (s ≡ Rest → ⊥) → then ≤ less 
 one-less s k then i h n l = by (toRest s k) refl h l
   where
     by : (m : ℕ) → toRest s k ≡ m → then ≤ less m → m ≤ n → (then ≤ n - 1) × (1 ≤ n)
-    by zero e h l = absurd (i (rested s k (omega arith)))
+    by zero e h l = absurd (i (near s k .rested (omega arith)))
     by (suc m) e h l = (omega arith, omega arith)
 
 idle-rest : (s : Step) (k : ℕ) → Idle s → toRest s k ≤ 6
@@ -196,7 +198,7 @@ module _ (P S v : ℕ) (on : Bool) where
         (rouses : (hs : List Happening) (w : World) (n : ℕ) → Keeps hs w → Ending side n w → Rouses counted side w) where
       pub ending-run : (ms : List Happening) (w : World) → AllTyped ms → AllOwn side ms → Real P S v on w → Keeps ms w → (n : ℕ) → Ending side n w → n ≤ ticksBy counted ms w → Ended side ms n w
       unfolding run
-      ending-run [] w t m real y n d l = ([], ([], (refl, (omega arith, rested (partyIn w side .step) (roomIn P S v on side (w .trace)) (omega (arith, d .left))))))
+      ending-run [] w t m real y n d l = ([], ([], (refl, (omega arith, near (partyIn w side .step) (roomIn P S v on side (w .trace)) .rested (omega (arith, d .left))))))
       ending-run (h ∷ ms) w t m real y n d l =
           by (partyIn w side .step) refl (kind (partyIn w side .step))
           (λ i.
@@ -219,7 +221,7 @@ module _ (r : List ℕ) (P S : ℕ) (on : Bool) (v : ℕ) (fresh : Fresh r P S o
   ends-by counted count side Keeps goes rouses hs ms t stop own y long =
       let w = reached r P S on v hs in
       let typed = typed-parts hs ms t in
-      let start : Ending P S v on side 7 w = record { quiet = quiet-duty (other side) (partyIn w (other side) .step) (stop .0); up = stop .1; left = seven (partyIn w side .step) (roomIn P S v on side (w .trace)) } in
+      let start : Ending P S v on side 7 w = record { quiet = quiet-duty (other side) (partyIn w (other side) .step) (stop .0); up = stop .1; left = near (partyIn w side .step) (roomIn P S v on side (w .trace)) .seven } in
       let done = ending-run P S v on (power-fits r P S on v fresh) (slot-fits r P S on v fresh) counted count side Keeps goes rouses ms w (typed .1) own (real-reached r P S on v fresh hs (typed .0)) y 7 start long in
       (done .0, (done .1 .0, (done .1 .1 .0, (done .1 .1 .1 .0, subst (λ (u : World). partyIn u side .step ≡ Rest) (sym (run-parts hs (done .0) (opened (created r P S on v)))) (done .1 .1 .1 .1)))))
 

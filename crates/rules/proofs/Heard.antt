@@ -8,7 +8,12 @@ use Rattle.types.specs.declared.Side.the-variants.{Sender, Recorder}
 use Rattle.types.specs.declared.Door.{Door}
 use Rattle.types.specs.declared.Step.{Step}
 use Rattle.types.specs.declared.Step.the-variants.{Rest, Look, Copy, Publish, Check, Raise, Wake, Gate, Epoch, Again, GateAgain, Wait, Asleep, LastLook, CloseSet, CloseRaise, CloseWake, ShutSet, ShutRaiseNe, ShutWakeNe, ShutRaiseNf, ShutWakeNf}
+use Rattle.types.specs.declared.Access.{Access}
+use Rattle.types.specs.declared.Access.the-variants.{None, LoadCounter, LoadFlags, LoadBell, WriteSlot, ReadSlot, StoreCounter, RaiseBell, SetFlag, WaitBell, WakeBell}
+use Rattle.rules.specs.Next.{nextAt}
 use Rattle.rules.specs.Phase.{Phase, resting, looking, copying, publishing, telling, asking, armed, poised, waits, sleeps, glancing, leaving}
+use Rattle.rules.specs.Take.{stanceOf}
+use Rattle.rules.proofs.Does.{otherAfter}
 use Rattle.rules.proofs.Leads.{Leads, idles, finds, blocks, gives-up, copies, spills, tells, stores, owes, passes, raises, wakes, enters, stops, reads, finds-again, stays, enters-again, stops-again, returns, ends, dreams, glances, glances-again, times-out, finds-last, finds-none, closes, closes-alone, close-raises, close-wakes, shuts, shut-raises, shut-wakes, shut-raises-again, shut-wakes-again, sleeps as falls-asleep}
 
 -- a party with room, or that should stop, has cause not to sleep
@@ -192,28 +197,7 @@ rungBy side (ShutRaiseNf c f) n = ifSender side n (n + 1)
 rungBy side (ShutWakeNf c f) n = n
 
 abbrev pub roomBy : Step → ℕ → ℕ
-roomBy Rest k = k
-roomBy Look k = k
-roomBy Copy k = k
-roomBy (Publish l g) k = suc k
-roomBy (Check l g) k = k
-roomBy (Raise l g) k = k
-roomBy (Wake l g) k = k
-roomBy Gate k = k
-roomBy Epoch k = k
-roomBy (Again e) k = k
-roomBy (GateAgain e) k = k
-roomBy (Wait e) k = k
-roomBy Asleep k = k
-roomBy (LastLook c) k = k
-roomBy CloseSet k = k
-roomBy CloseRaise k = k
-roomBy CloseWake k = k
-roomBy (ShutSet c) k = k
-roomBy (ShutRaiseNe c) k = k
-roomBy (ShutWakeNe c) k = k
-roomBy (ShutRaiseNf c f) k = k
-roomBy (ShutWakeNf c f) k = k
+roomBy s k = otherAfter (stanceOf s) k
 
 abbrev pub wakesAt : Side → Step → Bool
 wakesAt side Rest = false
@@ -239,30 +223,22 @@ wakesAt side (ShutWakeNe c) = ifSender side true false
 wakesAt side (ShutRaiseNf c f) = false
 wakesAt side (ShutWakeNf c f) = ifSender side false true
 
--- a step that sets no flag
+-- a step that sets no flag: of no side, by its access
+abbrev pub setsNo : Access → Bool
+setsNo None = true
+setsNo (LoadCounter side) = true
+setsNo LoadFlags = true
+setsNo (LoadBell b) = true
+setsNo (WriteSlot n) = true
+setsNo (ReadSlot n) = true
+setsNo (StoreCounter side n) = true
+setsNo (RaiseBell b) = true
+setsNo (SetFlag m) = false
+setsNo (WaitBell b e) = true
+setsNo (WakeBell b n) = true
+
 abbrev pub setsNone : Step → Bool
-setsNone Rest = true
-setsNone Look = true
-setsNone Copy = true
-setsNone (Publish l g) = true
-setsNone (Check l g) = true
-setsNone (Raise l g) = true
-setsNone (Wake l g) = true
-setsNone Gate = true
-setsNone Epoch = true
-setsNone (Again e) = true
-setsNone (GateAgain e) = true
-setsNone (Wait e) = true
-setsNone Asleep = true
-setsNone (LastLook c) = true
-setsNone CloseSet = false
-setsNone CloseRaise = true
-setsNone CloseWake = true
-setsNone (ShutSet c) = false
-setsNone (ShutRaiseNe c) = true
-setsNone (ShutWakeNe c) = true
-setsNone (ShutRaiseNf c f) = true
-setsNone (ShutWakeNf c f) = true
+setsNone s = setsNo (nextAt s Sender 0)
 
 -- a turn of the other's keeps what the waiter relies on. x is the waiter's room as the mover checks it, ok whether no failure
 -- was announced

@@ -14,17 +14,17 @@ use Rattle.types.specs.declared.Fit.the-variants.{Bad, Small}
 use Rattle.types.specs.declared.Stance.{Stance}
 use Rattle.types.specs.declared.Stance.the-variants.{Resting, Sleeping}
 use Rattle.types.specs.declared.Step.{Step}
-use Rattle.types.specs.declared.Step.the-variants.{Rest, Look, Copy, Gate, GateAgain, Wait, Asleep, LastLook}
+use Rattle.types.specs.declared.Step.the-variants.{Rest, Look, Copy, Gate, GateAgain, Asleep, LastLook}
 use Rattle.types.specs.declared.Move.{Move}
 use Rattle.types.specs.declared.Move.the-variants.{Still, To, End}
 use Rattle.types.specs.declared.Woke.the-variants.{Nobody}
 use Rattle.types.specs.declared.Answer.{Answer}
 use Rattle.types.specs.declared.Answer.the-variants.{Done, InvalidMagic, UnsupportedVersion, InvalidHeaderSize, InvalidLayout, InvalidCapacity, InvalidSlotSize, CorruptIndices, CorruptSlot, Full, Empty, Closed, Shutdown, Timeout, WouldBlock, OutputTooSmall, AlreadyAttached, Syscall, PayloadTooLong, NotFullOff, BadCall, Nothing, Begun, GoesOn}
 use Rattle.types.specs.declared.Access.{Access}
-use Rattle.types.specs.declared.Access.the-variants.{None, LoadCounter, LoadFlags, ReadSlot, WaitBell}
+use Rattle.types.specs.declared.Access.the-variants.{None, LoadCounter, LoadFlags, ReadSlot}
 use Rattle.layout.specs.Limits.{payloadCapacity}
 use Rattle.layout.specs.Slots.{headWord, headOf}
-use Rattle.rules.specs.Sides.{other, sleepBell}
+use Rattle.rules.specs.Sides.{other}
 use Rattle.rules.specs.Looks.{fitOf}
 use Rattle.rules.specs.Take.{stanceOf, answerOf, stepAfter, closedAfter, counterAfter, moveOf, takeSpec}
 use Rattle.rules.specs.Next.{slotAccess, nextAt, nextSpec}

@@ -1,3 +1,4 @@
+pub mod Views
 pub mod FitLaws
 pub mod Answered
 pub mod Leaving

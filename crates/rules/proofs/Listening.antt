@@ -16,7 +16,7 @@ use Rattle.types.specs.declared.Side.the-variants.{Sender, Recorder}
 use Rattle.types.specs.declared.Party.{Party}
 use Rattle.types.specs.declared.Fault.{Fault}
 use Rattle.types.specs.declared.Step.{Step}
-use Rattle.types.specs.declared.Step.the-variants.{Rest, Look, Copy, Publish, Check, Raise, Wake, Gate, Epoch, Again, GateAgain, Wait, Asleep, LastLook, CloseSet, CloseRaise, CloseWake, ShutSet, ShutRaiseNe, ShutWakeNe, ShutRaiseNf, ShutWakeNf}
+use Rattle.types.specs.declared.Step.the-variants.{Epoch, Wait, Asleep}
 use Rattle.types.specs.declared.Access.{Access}
 use Rattle.layout.specs.Limits.{powerOk, slotOk}
 use Rattle.layout.specs.Header.{flagsAt, bellAt}
@@ -28,6 +28,8 @@ use Rattle.rules.specs.Bench.{wakened}
 use Rattle.rules.specs.Run.{Trace, World, partyIn, takes, traced, rungOf}
 use Rattle.rules.specs.Stretch.{holdsEpoch}
 use Rattle.rules.specs.Phase.{phase, sleeps}
+use Rattle.rules.proofs.Does.{Does, does, nothing, looks, flags, reads as epoch, writes, takes as take-slot, stores as store, raises as ring, closes as close, shuts as shut, waits as wait, wakes as wake}
+use Rattle.rules.proofs.Views.{asleep-step}
 use Rattle.rules.proofs.After.{flagsBy}
 use Rattle.rules.proofs.Kept.{flags-are}
 use Rattle.rules.proofs.Seats.{moved, roused, roused-elim}
@@ -62,57 +64,23 @@ unrung e b n l h q =
     plus-differ 32 e n 0 (omega arith) (omega arith) f
 
 own-room-still : (s : Step) (k : ℕ) → waitsOn s ≡ true → ownRoom s k ≡ k
-own-room-still s k h = by s h
+own-room-still s k h = by s (nextAt s Sender 0) (does Sender 0 s) h
   where
-    by : (s : Step) → waitsOn s ≡ true → ownRoom s k ≡ k
-    by Rest h = refl
-    by Look h = refl
-    by Copy h = refl
-    by (Publish l t) h = absurd (let z : _≡_ {A = ℕ} 0 1 = cc in omega arith)
-    by (Check l t) h = refl
-    by (Raise l t) h = refl
-    by (Wake l t) h = refl
-    by Gate h = refl
-    by Epoch h = refl
-    by (Again e) h = refl
-    by (GateAgain e) h = refl
-    by (Wait e) h = refl
-    by Asleep h = refl
-    by (LastLook c) h = refl
-    by CloseSet h = refl
-    by CloseRaise h = refl
-    by CloseWake h = refl
-    by (ShutSet c) h = refl
-    by (ShutRaiseNe c) h = refl
-    by (ShutWakeNe c) h = refl
-    by (ShutRaiseNf c e) h = refl
-    by (ShutWakeNf c e) h = refl
+    by : (s : Step) (a : Access) → Does Sender 0 s a → waitsOn s ≡ true → ownRoom s k ≡ k
+    by s a (nothing l) h = l .own k
+    by s a (looks l) h = l .own k
+    by s a (flags l) h = l .own k
+    by s a epoch h = refl
+    by s a (writes q) h = refl
+    by s a (take-slot q) h = refl
+    by s a store h = absurd (let z : _≡_ {A = ℕ} 0 1 = cc in omega arith)
+    by s a (ring l b) h = l .own k
+    by s a close h = refl
+    by s a shut h = refl
+    by s a wait h = refl
+    by s a (wake l b m) h = l .own k
 
--- the one step that sleeps, and one that tries does not
-asleep-step : (s : Step) → phase s ≡ sleeps → s ≡ Asleep
-asleep-step Rest e = absurd (let z : _≡_ {A = ℕ} 0 1 = cc in omega arith)
-asleep-step Look e = absurd (let z : _≡_ {A = ℕ} 0 1 = cc in omega arith)
-asleep-step Copy e = absurd (let z : _≡_ {A = ℕ} 0 1 = cc in omega arith)
-asleep-step (Publish l t) e = absurd (let z : _≡_ {A = ℕ} 0 1 = cc in omega arith)
-asleep-step (Check l t) e = absurd (let z : _≡_ {A = ℕ} 0 1 = cc in omega arith)
-asleep-step (Raise l t) e = absurd (let z : _≡_ {A = ℕ} 0 1 = cc in omega arith)
-asleep-step (Wake l t) e = absurd (let z : _≡_ {A = ℕ} 0 1 = cc in omega arith)
-asleep-step Gate e = absurd (let z : _≡_ {A = ℕ} 0 1 = cc in omega arith)
-asleep-step Epoch e = absurd (let z : _≡_ {A = ℕ} 0 1 = cc in omega arith)
-asleep-step (Again n) e = absurd (let z : _≡_ {A = ℕ} 0 1 = cc in omega arith)
-asleep-step (GateAgain n) e = absurd (let z : _≡_ {A = ℕ} 0 1 = cc in omega arith)
-asleep-step (Wait n) e = absurd (let z : _≡_ {A = ℕ} 0 1 = cc in omega arith)
-asleep-step Asleep e = refl
-asleep-step (LastLook c) e = absurd (let z : _≡_ {A = ℕ} 0 1 = cc in omega arith)
-asleep-step CloseSet e = absurd (let z : _≡_ {A = ℕ} 0 1 = cc in omega arith)
-asleep-step CloseRaise e = absurd (let z : _≡_ {A = ℕ} 0 1 = cc in omega arith)
-asleep-step CloseWake e = absurd (let z : _≡_ {A = ℕ} 0 1 = cc in omega arith)
-asleep-step (ShutSet c) e = absurd (let z : _≡_ {A = ℕ} 0 1 = cc in omega arith)
-asleep-step (ShutRaiseNe c) e = absurd (let z : _≡_ {A = ℕ} 0 1 = cc in omega arith)
-asleep-step (ShutWakeNe c) e = absurd (let z : _≡_ {A = ℕ} 0 1 = cc in omega arith)
-asleep-step (ShutRaiseNf c n) e = absurd (let z : _≡_ {A = ℕ} 0 1 = cc in omega arith)
-asleep-step (ShutWakeNf c n) e = absurd (let z : _≡_ {A = ℕ} 0 1 = cc in omega arith)
-
+-- one that tries does not sleep
 pub never : (b : Bool) → Tries b sleeps → ⊥
 never true y = y
 never false y = y

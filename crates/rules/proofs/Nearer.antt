@@ -7,7 +7,8 @@ use Rattle.types.specs.declared.Door.{Door}
 use Rattle.types.specs.declared.Step.{Step}
 use Rattle.types.specs.declared.Step.the-variants.{Rest, Look, Copy, Publish, Check, Raise, Wake, Gate, Epoch, Again, GateAgain, Wait, Asleep, LastLook, CloseSet, CloseRaise, CloseWake, ShutSet, ShutRaiseNe, ShutWakeNe, ShutRaiseNf, ShutWakeNf}
 use Rattle.rules.proofs.Leads.{barred, Leads, idles, finds, blocks, gives-up, copies, spills, tells, stores, owes, passes, raises, wakes, enters, stops, reads, finds-again, stays, enters-again, stops-again, returns, ends, dreams, glances, glances-again, times-out, finds-last, finds-none, closes, closes-alone, close-raises, close-wakes, shuts, shut-raises, shut-wakes, shut-raises-again, shut-wakes-again, sleeps as falls-asleep}
-use Rattle.rules.proofs.Costs.{less, ownRoom}
+use Rattle.rules.proofs.Does.{less}
+use Rattle.rules.proofs.Costs.{ownRoom}
 
 -- a look that finds room copies and goes on to a store; one that finds none comes to the flags, and to a last look at most
 abbrev byRoom : ℕ → (none some : ℕ) → ℕ
@@ -47,53 +48,34 @@ room-not : (k none some : ℕ) → 0 < none → 0 < some → byRoom k none some 
 room-not zero none some h g l = omega arith
 room-not (suc k) none some h g l = omega arith
 
-pub seven : (s : Step) (k : ℕ) → toRest s k ≤ 7
-seven Rest k = omega arith
-seven Look k = room-le k 3 6 7 (omega arith) (omega arith)
-seven Copy k = omega arith
-seven (Publish l g) k = omega arith
-seven (Check l g) k = omega arith
-seven (Raise l g) k = omega arith
-seven (Wake l g) k = omega arith
-seven Gate k = room-le k 2 7 7 (omega arith) (omega arith)
-seven Epoch k = omega arith
-seven (Again e) k = room-le k 3 6 7 (omega arith) (omega arith)
-seven (GateAgain e) k = room-le k 2 7 7 (omega arith) (omega arith)
-seven (Wait e) k = omega arith
-seven Asleep k = omega arith
-seven (LastLook c) k = room-le k 1 6 7 (omega arith) (omega arith)
-seven CloseSet k = omega arith
-seven CloseRaise k = omega arith
-seven CloseWake k = omega arith
-seven (ShutSet c) k = omega arith
-seven (ShutRaiseNe c) k = omega arith
-seven (ShutWakeNe c) k = omega arith
-seven (ShutRaiseNf c f) k = omega arith
-seven (ShutWakeNf c f) k = omega arith
+-- at most seven are left, and none at rest alone
+pub record Near (s : Step) (k : ℕ) : Type 0 where
+  pub seven : toRest s k ≤ 7
+  pub rested : toRest s k ≤ 0 → s ≡ Rest
 
-pub rested : (s : Step) (k : ℕ) → toRest s k ≤ 0 → s ≡ Rest
-rested Rest k h = refl
-rested Look k h = absurd (room-not k 3 6 (omega arith) (omega arith) h)
-rested Copy k h = absurd (omega arith)
-rested (Publish l g) k h = absurd (omega arith)
-rested (Check l g) k h = absurd (omega arith)
-rested (Raise l g) k h = absurd (omega arith)
-rested (Wake l g) k h = absurd (omega arith)
-rested Gate k h = absurd (room-not k 2 7 (omega arith) (omega arith) h)
-rested Epoch k h = absurd (omega arith)
-rested (Again e) k h = absurd (room-not k 3 6 (omega arith) (omega arith) h)
-rested (GateAgain e) k h = absurd (room-not k 2 7 (omega arith) (omega arith) h)
-rested (Wait e) k h = absurd (omega arith)
-rested Asleep k h = absurd (omega arith)
-rested (LastLook c) k h = absurd (room-not k 1 6 (omega arith) (omega arith) h)
-rested CloseSet k h = absurd (omega arith)
-rested CloseRaise k h = absurd (omega arith)
-rested CloseWake k h = absurd (omega arith)
-rested (ShutSet c) k h = absurd (omega arith)
-rested (ShutRaiseNe c) k h = absurd (omega arith)
-rested (ShutWakeNe c) k h = absurd (omega arith)
-rested (ShutRaiseNf c f) k h = absurd (omega arith)
-rested (ShutWakeNf c f) k h = absurd (omega arith)
+pub near : (s : Step) (k : ℕ) → Near s k
+near Rest k = record { seven = omega arith; rested = λ h. refl }
+near Look k = record { seven = room-le k 3 6 7 (omega arith) (omega arith); rested = λ h. absurd (room-not k 3 6 (omega arith) (omega arith) h) }
+near Copy k = record { seven = omega arith; rested = λ h. absurd (omega arith) }
+near (Publish l g) k = record { seven = omega arith; rested = λ h. absurd (omega arith) }
+near (Check l g) k = record { seven = omega arith; rested = λ h. absurd (omega arith) }
+near (Raise l g) k = record { seven = omega arith; rested = λ h. absurd (omega arith) }
+near (Wake l g) k = record { seven = omega arith; rested = λ h. absurd (omega arith) }
+near Gate k = record { seven = room-le k 2 7 7 (omega arith) (omega arith); rested = λ h. absurd (room-not k 2 7 (omega arith) (omega arith) h) }
+near Epoch k = record { seven = omega arith; rested = λ h. absurd (omega arith) }
+near (Again e) k = record { seven = room-le k 3 6 7 (omega arith) (omega arith); rested = λ h. absurd (room-not k 3 6 (omega arith) (omega arith) h) }
+near (GateAgain e) k = record { seven = room-le k 2 7 7 (omega arith) (omega arith); rested = λ h. absurd (room-not k 2 7 (omega arith) (omega arith) h) }
+near (Wait e) k = record { seven = omega arith; rested = λ h. absurd (omega arith) }
+near Asleep k = record { seven = omega arith; rested = λ h. absurd (omega arith) }
+near (LastLook c) k = record { seven = room-le k 1 6 7 (omega arith) (omega arith); rested = λ h. absurd (room-not k 1 6 (omega arith) (omega arith) h) }
+near CloseSet k = record { seven = omega arith; rested = λ h. absurd (omega arith) }
+near CloseRaise k = record { seven = omega arith; rested = λ h. absurd (omega arith) }
+near CloseWake k = record { seven = omega arith; rested = λ h. absurd (omega arith) }
+near (ShutSet c) k = record { seven = omega arith; rested = λ h. absurd (omega arith) }
+near (ShutRaiseNe c) k = record { seven = omega arith; rested = λ h. absurd (omega arith) }
+near (ShutWakeNe c) k = record { seven = omega arith; rested = λ h. absurd (omega arith) }
+near (ShutRaiseNf c f) k = record { seven = omega arith; rested = λ h. absurd (omega arith) }
+near (ShutWakeNf c f) k = record { seven = omega arith; rested = λ h. absurd (omega arith) }
 
 -- a turn with room and one without each take one off
 room-down : (k a b c d : ℕ) → (k ≡ 0 → a ≤ less c) → (0 < k → b ≤ less d) → byRoom k a b ≤ less (byRoom k c d)

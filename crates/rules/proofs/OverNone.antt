@@ -1,7 +1,7 @@
 -- T10: 11 ends a pop, and 13 any call, over nothing alone.
 use mathlib.Core.Path.{_≡_, refl, sym, ap, _∙_, subst}
 use mathlib.Core.Bool.{Bool, true, false}
-use mathlib.Core.List.{List, _++_}
+use mathlib.Core.List.{List}
 use Prim.Native.Nat.{ℕ, zero, suc}
 use native.Mathlib.Omega.{arith}
 use Rattle.types.specs.declared.Side.{Side}
@@ -13,9 +13,7 @@ use Rattle.types.specs.declared.Fault.the-variants.{Fine, Error}
 use Rattle.types.specs.declared.Room.the-variants.{Blocked}
 use Rattle.types.specs.declared.Step.{Step}
 use Rattle.types.specs.declared.Step.the-variants.{LastLook}
-use Rattle.types.specs.declared.Event.{Event}
 use Rattle.types.specs.declared.Event.the-variants.{Turn, Failing, Spurious, TimeOut, Push, Pop, Close, Shutdown}
-use Rattle.types.specs.declared.Answer.{Answer}
 use Rattle.types.specs.declared.Answer.the-variants.{Closed, Timeout}
 use Rattle.words.specs.Le.{leAt}
 use Rattle.layout.specs.Limits.{powerOk, slotOk, capacity}
@@ -25,12 +23,11 @@ use Rattle.rules.specs.Sides.{other, sleepBell}
 use Rattle.rules.specs.Looks.{roomOf, doorOf}
 use Rattle.rules.specs.Next.{nextSpec}
 use Rattle.rules.specs.Access.{valueOf}
-use Rattle.rules.specs.Turn.{errorOf, turnSpec}
+use Rattle.rules.specs.Turn.{turnSpec}
 use Rattle.rules.specs.Bench.{settled, turned, played}
 use Rattle.rules.specs.Given.{left, left-again, none-left, timed-out, Ask, push, pop, close, shutdown, spurious, timeout, turn, Given, turn-taken, answered}
-use Rattle.rules.specs.Run.{World, Happening, plays, partyIn, takes, opened}
+use Rattle.rules.specs.Run.{World, Happening, partyIn, takes, opened}
 use Rattle.rules.specs.Premises.{AllTyped}
-use Rattle.rules.specs.Stretch.{OwnDoing}
 use Rattle.rules.specs.Claims.{room, Fresh, reached, ClosedOverNone, TimeoutOverNone}
 use Rattle.rules.proofs.Answered.{given-first}
 use Rattle.rules.proofs.Rooms.{asRoom}
@@ -40,8 +37,8 @@ use Rattle.rules.proofs.RealRun.{power-fits, slot-fits, real-reached}
 use Rattle.rules.proofs.Causes.{room-is}
 use Rattle.rules.proofs.Asks.{run-parts, typed-parts}
 use Rattle.rules.proofs.Delivers.{all-delivered}
-use Rattle.rules.proofs.Sealed.{Sealed, sealed-run}
-use Rattle.rules.proofs.Real.{roomIn, Real}
+use Rattle.rules.proofs.Sealed.{sealed-run}
+use Rattle.rules.proofs.Real.{roomIn}
 
 -- a turn at its last look that found no room
 module _ (side : Side) (w : World) (payload lent : List ℕ) (fault : Fault) where

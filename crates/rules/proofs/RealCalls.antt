@@ -22,8 +22,8 @@ use Rattle.rules.specs.Calls.{isSleeping, sound, ready, reply, at, named
 use Rattle.rules.specs.Bench.{partyOf, seat}
 use Rattle.rules.specs.Run.{World, partyIn}
 use Rattle.rules.specs.Phase.{phase}
+use Rattle.rules.proofs.Views.{sleeping-step}
 use Rattle.rules.proofs.Refusals.{ready-rests}
-use Rattle.rules.proofs.Seats.{sleeping-step}
 use Rattle.rules.proofs.RealTurn.{both-sides}
 use Rattle.rules.proofs.Hands.{in-hand-none}
 use Rattle.rules.proofs.Real.{HasRoom, parts, Since, Side-good, Real, free}

@@ -37,6 +37,7 @@ use Rattle.rules.specs.Turn.{errorOf, lentTo, lentOk, wokeOf}
 use Rattle.rules.specs.Bench.{seat, hears, wakened}
 use Rattle.rules.specs.Run.{Note, Trace, World, partyIn, takes, traced, rungOf}
 use Rattle.rules.specs.Phase.{copying, looking, phase}
+use Rattle.rules.proofs.Views.{is-copy}
 use Rattle.rules.proofs.Rooms.{asRoom, sender-sees, recorder-sees, sender-checks, recorder-checks}
 use Rattle.rules.proofs.Leads.{Leads, Tells, leads}
 use Rattle.rules.proofs.Does.{Does, does}
@@ -45,7 +46,7 @@ use Rattle.rules.proofs.Kept.{header-in, fixed-kept, counts-own, counts
 use Rattle.rules.proofs.Seats.{moved, Roused, roused, roused-elim, seated-own, seated-other, since-own, since-other}
 use Rattle.rules.proofs.Hands.{in-hand-none, queue-kept, room-own, room-other, hand-own, hand-other}
 use Rattle.rules.proofs.FitLaws.{copy-by}
-use Rattle.rules.proofs.Copies.{copy-written, copy-read, is-copy}
+use Rattle.rules.proofs.Copies.{copy-written, copy-read}
 use Rattle.rules.proofs.Taken.{turnWorld, turn-refused, seat-own, seat-other, turn-taken, attached-here, length-ok, lent-ok}
 use Rattle.rules.proofs.Real.{countOf, HasRoom, Since, sizes, roomIn, nth, InHand, Queue, Side-good, Real}
 

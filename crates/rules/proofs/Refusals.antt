@@ -3,7 +3,6 @@ use mathlib.Core.Path.{_≡_, refl, ap, ap₂, _∙_}
 use mathlib.Core.Bool.{Bool, true, false, not, _&&_}
 use mathlib.Core.List.{List, [], _∷_}
 use Prim.Native.Nat.{ℕ}
-use native.Mathlib.Omega.{arith}
 use lib.Dec.{T, leb, eqb}
 use lib.ListN.{length}
 use Rattle.types.specs.Pick.{pick}
@@ -15,7 +14,7 @@ use Rattle.types.specs.declared.Reply.{Reply}
 use Rattle.types.specs.declared.Turned.{Turned}
 use Rattle.types.specs.declared.Fault.{Fault}
 use Rattle.types.specs.declared.Step.{Step}
-use Rattle.types.specs.declared.Step.the-variants.{Rest, Look, Copy, Publish, Check, Raise, Wake, Gate, Epoch, Again, GateAgain, Wait, Asleep, LastLook, CloseSet, CloseRaise, CloseWake, ShutSet, ShutRaiseNe, ShutWakeNe, ShutRaiseNf, ShutWakeNf}
+use Rattle.types.specs.declared.Step.the-variants.{Rest, Look, LastLook, CloseSet, ShutSet}
 use Rattle.types.specs.declared.Answer.{Answer}
 use Rattle.types.specs.declared.Answer.the-variants.{Done, InvalidMagic, UnsupportedVersion, InvalidHeaderSize, InvalidLayout, InvalidCapacity, InvalidSlotSize, CorruptIndices, CorruptSlot, Full, Empty, Closed, Shutdown, Timeout, WouldBlock, OutputTooSmall, AlreadyAttached, Syscall, PayloadTooLong, NotFullOff, BadCall, Nothing, Begun, GoesOn}
 use Rattle.words.proofs.Runs.{and-right}
@@ -27,6 +26,7 @@ use Rattle.rules.specs.Calls.{isResting, isSleeping, sound, ready, reply
 use Rattle.rules.specs.Turn.{taken, refused, turnSpec, turnLeaves, turnBuffer}
 use Rattle.rules.specs.Given.{Checked, passed, fails, holds, Ask, create, attach, turn, Given, created, attached, push-bad, pop-bad, close-bad, shutdown-bad, spurious-bad, timeout-bad, turn-bad, push-closed, pop-closed, close-closed, push-off, push-long, push-begun, pop-begun, close-begun, shutdown-begun, spurious-idle, timeout-idle, spurious-taken, timeout-taken, turn-taken}
 use Rattle.rules.specs.Leaves.{AtRest, Unchanged, Leaves, LeavesAll}
+use Rattle.rules.proofs.Views.{resting-step}
 use Rattle.rules.proofs.Answered.{given-first}
 use Rattle.rules.proofs.Leaving.{ends-leaves}
 
@@ -186,30 +186,6 @@ module _ (side : Side) (p : Party) (q : Reply) where
 -- the party of a reply that is known
 party-of : {r : Reply} {p : Party} {a : Answer} → r ≡ reply p a → r .party ≡ p
 party-of e = ap (λ (x : Reply). x .party) e
-
-resting-step : (s : Step) → isResting (stanceOf s) ≡ true → s ≡ Rest
-resting-step Rest e = refl
-resting-step Look e = absurd (let z : _≡_ {A = ℕ} 0 1 = cc in omega arith)
-resting-step Copy e = absurd (let z : _≡_ {A = ℕ} 0 1 = cc in omega arith)
-resting-step (Publish l t) e = absurd (let z : _≡_ {A = ℕ} 0 1 = cc in omega arith)
-resting-step (Check l t) e = absurd (let z : _≡_ {A = ℕ} 0 1 = cc in omega arith)
-resting-step (Raise l t) e = absurd (let z : _≡_ {A = ℕ} 0 1 = cc in omega arith)
-resting-step (Wake l t) e = absurd (let z : _≡_ {A = ℕ} 0 1 = cc in omega arith)
-resting-step Gate e = absurd (let z : _≡_ {A = ℕ} 0 1 = cc in omega arith)
-resting-step Epoch e = absurd (let z : _≡_ {A = ℕ} 0 1 = cc in omega arith)
-resting-step (Again n) e = absurd (let z : _≡_ {A = ℕ} 0 1 = cc in omega arith)
-resting-step (GateAgain n) e = absurd (let z : _≡_ {A = ℕ} 0 1 = cc in omega arith)
-resting-step (Wait n) e = absurd (let z : _≡_ {A = ℕ} 0 1 = cc in omega arith)
-resting-step Asleep e = absurd (let z : _≡_ {A = ℕ} 0 1 = cc in omega arith)
-resting-step (LastLook c) e = absurd (let z : _≡_ {A = ℕ} 0 1 = cc in omega arith)
-resting-step CloseSet e = absurd (let z : _≡_ {A = ℕ} 0 1 = cc in omega arith)
-resting-step CloseRaise e = absurd (let z : _≡_ {A = ℕ} 0 1 = cc in omega arith)
-resting-step CloseWake e = absurd (let z : _≡_ {A = ℕ} 0 1 = cc in omega arith)
-resting-step (ShutSet c) e = absurd (let z : _≡_ {A = ℕ} 0 1 = cc in omega arith)
-resting-step (ShutRaiseNe c) e = absurd (let z : _≡_ {A = ℕ} 0 1 = cc in omega arith)
-resting-step (ShutWakeNe c) e = absurd (let z : _≡_ {A = ℕ} 0 1 = cc in omega arith)
-resting-step (ShutRaiseNf c n) e = absurd (let z : _≡_ {A = ℕ} 0 1 = cc in omega arith)
-resting-step (ShutWakeNf c n) e = absurd (let z : _≡_ {A = ℕ} 0 1 = cc in omega arith)
 
 pub ready-rests : (side : Side) (p : Party) → ready side p ≡ true → p .step ≡ Rest
 unfolding ready

@@ -12,13 +12,11 @@ use Rattle.types.specs.declared.Side.the-variants.{Sender, Recorder}
 use Rattle.types.specs.declared.Party.{Party}
 use Rattle.types.specs.declared.Fault.{Fault}
 use Rattle.types.specs.declared.Fault.the-variants.{Fine, Error}
-use Rattle.types.specs.declared.Step.{Step}
 use Rattle.types.specs.declared.Stance.{Stance}
 use Rattle.types.specs.declared.Stance.the-variants.{Resting, Sleeping, Copying, Publishing, Closing, Moving}
 use Rattle.types.specs.declared.Event.the-variants.{Turn, Failing, Spurious, TimeOut, Push, Pop, Close, Shutdown}
 use Rattle.layout.specs.Limits.{powerOk, slotOk}
 use Rattle.layout.specs.Attach.{attachAnswer, attachReply, attachLeaves}
-use Rattle.rules.specs.Sides.{other}
 use Rattle.rules.specs.Take.{stanceOf, closedAfter}
 use Rattle.rules.specs.Next.{nextAt, nextSpec}
 use Rattle.rules.specs.Access.{bufferOf}

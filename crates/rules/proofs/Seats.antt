@@ -20,7 +20,7 @@ use Rattle.types.specs.declared.Mark.the-variants.{Shutdown as ShutMark}
 use Rattle.types.specs.declared.Door.{Door}
 use Rattle.types.specs.declared.Door.the-variants.{Shut, Left, Open}
 use Rattle.types.specs.declared.Step.{Step}
-use Rattle.types.specs.declared.Step.the-variants.{Rest, Look, Copy, Publish, Check, Raise, Wake, Gate, Epoch, Again, GateAgain, Wait, Asleep, LastLook, CloseSet, CloseRaise, CloseWake, ShutSet, ShutRaiseNe, ShutWakeNe, ShutRaiseNf, ShutWakeNf}
+use Rattle.types.specs.declared.Step.the-variants.{Rest, Look, Epoch, Asleep, LastLook}
 use Rattle.types.specs.declared.Access.{Access}
 use Rattle.layout.specs.Flags.{worth, bitOn, closeMark}
 use Rattle.layout.specs.Header.{flagsAt, bellAt}
@@ -33,6 +33,7 @@ use Rattle.rules.specs.Access.{leavesOf}
 use Rattle.rules.specs.Bench.{hears, wakened}
 use Rattle.rules.specs.Run.{Trace, traced, rungOf}
 use Rattle.rules.specs.Phase.{Phase, resting, looking, copying, publishing, telling, asking, armed, poised, waits, sleeps as asleep, glancing, leaving, phase}
+use Rattle.rules.proofs.Views.{sleeping-step}
 use Rattle.rules.proofs.After.{bellBy, bell-after}
 use Rattle.rules.proofs.Does.{Does, nothing, looks, flags, reads as epoch, writes, takes, stores as store, raises as ring, closes as close, shuts as shut, waits as wait, wakes as wake}
 use Rattle.rules.proofs.Leads.{Leads, idles, finds, blocks, gives-up, copies, spills, tells, stores, owes, passes, raises, wakes, enters, stops, reads, finds-again, stays, enters-again, stops-again, sleeps, returns, ends, dreams, glances, glances-again, times-out, finds-last, finds-none, closes, closes-alone, close-raises, close-wakes, shuts, shut-raises, shut-wakes, shut-raises-again, shut-wakes-again}
@@ -60,30 +61,6 @@ pub record Roused (q r : Party) : Type 0 where
   pub counter : r .counter ≡ q .counter
   pub blocking : r .blocking ≡ q .blocking
   pub step : (r .step ≡ q .step) ⊎ ((q .step ≡ Asleep) × (r .step ≡ Look))
-
-pub sleeping-step : (s : Step) → isSleeping (stanceOf s) ≡ true → s ≡ Asleep
-sleeping-step Rest e = absurd (let z : _≡_ {A = ℕ} 0 1 = cc in omega arith)
-sleeping-step Look e = absurd (let z : _≡_ {A = ℕ} 0 1 = cc in omega arith)
-sleeping-step Copy e = absurd (let z : _≡_ {A = ℕ} 0 1 = cc in omega arith)
-sleeping-step (Publish l t) e = absurd (let z : _≡_ {A = ℕ} 0 1 = cc in omega arith)
-sleeping-step (Check l t) e = absurd (let z : _≡_ {A = ℕ} 0 1 = cc in omega arith)
-sleeping-step (Raise l t) e = absurd (let z : _≡_ {A = ℕ} 0 1 = cc in omega arith)
-sleeping-step (Wake l t) e = absurd (let z : _≡_ {A = ℕ} 0 1 = cc in omega arith)
-sleeping-step Gate e = absurd (let z : _≡_ {A = ℕ} 0 1 = cc in omega arith)
-sleeping-step Epoch e = absurd (let z : _≡_ {A = ℕ} 0 1 = cc in omega arith)
-sleeping-step (Again n) e = absurd (let z : _≡_ {A = ℕ} 0 1 = cc in omega arith)
-sleeping-step (GateAgain n) e = absurd (let z : _≡_ {A = ℕ} 0 1 = cc in omega arith)
-sleeping-step (Wait n) e = absurd (let z : _≡_ {A = ℕ} 0 1 = cc in omega arith)
-sleeping-step Asleep e = refl
-sleeping-step (LastLook c) e = absurd (let z : _≡_ {A = ℕ} 0 1 = cc in omega arith)
-sleeping-step CloseSet e = absurd (let z : _≡_ {A = ℕ} 0 1 = cc in omega arith)
-sleeping-step CloseRaise e = absurd (let z : _≡_ {A = ℕ} 0 1 = cc in omega arith)
-sleeping-step CloseWake e = absurd (let z : _≡_ {A = ℕ} 0 1 = cc in omega arith)
-sleeping-step (ShutSet c) e = absurd (let z : _≡_ {A = ℕ} 0 1 = cc in omega arith)
-sleeping-step (ShutRaiseNe c) e = absurd (let z : _≡_ {A = ℕ} 0 1 = cc in omega arith)
-sleeping-step (ShutWakeNe c) e = absurd (let z : _≡_ {A = ℕ} 0 1 = cc in omega arith)
-sleeping-step (ShutRaiseNf c n) e = absurd (let z : _≡_ {A = ℕ} 0 1 = cc in omega arith)
-sleeping-step (ShutWakeNf c n) e = absurd (let z : _≡_ {A = ℕ} 0 1 = cc in omega arith)
 
 pub roused : (side : Side) (q : Party) (w : Woke) → Roused q (wakened side q w)
 unfolding wakened

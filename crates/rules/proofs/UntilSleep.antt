@@ -22,8 +22,9 @@ use Rattle.rules.specs.Next.{nextAt}
 use Rattle.rules.specs.Stretch.{inWait}
 use Rattle.rules.proofs.After.{bellBy}
 use Rattle.rules.proofs.Leads.{Leads, idles, finds, blocks, gives-up, copies, spills, tells, stores, owes, passes, raises, wakes, enters, stops, reads, finds-again, stays, enters-again, stops-again, returns, ends, dreams, glances, glances-again, times-out, finds-last, finds-none, closes, closes-alone, close-raises, close-wakes, shuts, shut-raises, shut-wakes, shut-raises-again, shut-wakes-again, sleeps as falls-asleep}
-use Rattle.rules.proofs.Costs.{less}
+use Rattle.rules.proofs.Does.{less}
 use Rattle.rules.proofs.Heard.{setsNone}
+use Rattle.rules.proofs.Effects.{sets-none}
 
 -- the turns that are left until sleep, by whether the bell still reads the epoch
 abbrev pub toSleep : (bell : ℕ) → Step → ℕ
@@ -54,83 +55,42 @@ at-most : (t : Bool) (x y : ℕ) → x ≤ 9 → y ≤ 9 → pick t x y ≤ 9
 at-most true x y h g = h
 at-most false x y h g = g
 
-pub nine : (b : ℕ) (s : Step) → toSleep b s ≤ 9
-nine b Rest = omega arith
-nine b Look = omega arith
-nine b Copy = omega arith
-nine b (Publish l t) = omega arith
-nine b (Check l t) = omega arith
-nine b (Raise l t) = omega arith
-nine b (Wake l t) = omega arith
-nine b Gate = omega arith
-nine b Epoch = omega arith
-nine b (Again e) = at-most (eqb b e) 3 9 (omega arith) (omega arith)
-nine b (GateAgain e) = at-most (eqb b e) 2 8 (omega arith) (omega arith)
-nine b (Wait e) = at-most (eqb b e) 1 7 (omega arith) (omega arith)
-nine b Asleep = omega arith
-nine b (LastLook c) = omega arith
-nine b CloseSet = omega arith
-nine b CloseRaise = omega arith
-nine b CloseWake = omega arith
-nine b (ShutSet c) = omega arith
-nine b (ShutRaiseNe c) = omega arith
-nine b (ShutWakeNe c) = omega arith
-nine b (ShutRaiseNf c e) = omega arith
-nine b (ShutWakeNf c e) = omega arith
-
 not-none : (t : Bool) (x y : ℕ) → 0 < x → 0 < y → pick t x y ≤ 0 → ⊥
 not-none true x y h g l = omega arith
 not-none false x y h g l = omega arith
 
--- only Asleep is at the end
-pub slept : (b : ℕ) (s : Step) → inWait s ≡ true → toSleep b s ≤ 0 → s ≡ Asleep
-slept b Rest w h = absurd (let u : _≡_ {A = ℕ} 0 1 = cc in omega arith)
-slept b Look w h = absurd (omega arith)
-slept b Copy w h = absurd (let u : _≡_ {A = ℕ} 0 1 = cc in omega arith)
-slept b (Publish l t) w h = absurd (let u : _≡_ {A = ℕ} 0 1 = cc in omega arith)
-slept b (Check l t) w h = absurd (let u : _≡_ {A = ℕ} 0 1 = cc in omega arith)
-slept b (Raise l t) w h = absurd (let u : _≡_ {A = ℕ} 0 1 = cc in omega arith)
-slept b (Wake l t) w h = absurd (let u : _≡_ {A = ℕ} 0 1 = cc in omega arith)
-slept b Gate w h = absurd (omega arith)
-slept b Epoch w h = absurd (omega arith)
-slept b (Again e) w h = absurd (not-none (eqb b e) 3 9 (omega arith) (omega arith) h)
-slept b (GateAgain e) w h = absurd (not-none (eqb b e) 2 8 (omega arith) (omega arith) h)
-slept b (Wait e) w h = absurd (not-none (eqb b e) 1 7 (omega arith) (omega arith) h)
-slept b Asleep w h = refl
-slept b (LastLook c) w h = absurd (let u : _≡_ {A = ℕ} 0 1 = cc in omega arith)
-slept b CloseSet w h = absurd (let u : _≡_ {A = ℕ} 0 1 = cc in omega arith)
-slept b CloseRaise w h = absurd (let u : _≡_ {A = ℕ} 0 1 = cc in omega arith)
-slept b CloseWake w h = absurd (let u : _≡_ {A = ℕ} 0 1 = cc in omega arith)
-slept b (ShutSet c) w h = absurd (let u : _≡_ {A = ℕ} 0 1 = cc in omega arith)
-slept b (ShutRaiseNe c) w h = absurd (let u : _≡_ {A = ℕ} 0 1 = cc in omega arith)
-slept b (ShutWakeNe c) w h = absurd (let u : _≡_ {A = ℕ} 0 1 = cc in omega arith)
-slept b (ShutRaiseNf c e) w h = absurd (let u : _≡_ {A = ℕ} 0 1 = cc in omega arith)
-slept b (ShutWakeNf c e) w h = absurd (let u : _≡_ {A = ℕ} 0 1 = cc in omega arith)
+-- at most nine are left, and none at the end alone: asleep
+pub record NearSleep (b : ℕ) (s : Step) : Type 0 where
+  pub nine : toSleep b s ≤ 9
+  pub slept : inWait s ≡ true → toSleep b s ≤ 0 → s ≡ Asleep
+
+pub near-sleep : (b : ℕ) (s : Step) → NearSleep b s
+near-sleep b Rest = record { nine = omega arith; slept = λ w h. absurd (let u : _≡_ {A = ℕ} 0 1 = cc in omega arith) }
+near-sleep b Look = record { nine = omega arith; slept = λ w h. absurd (omega arith) }
+near-sleep b Copy = record { nine = omega arith; slept = λ w h. absurd (let u : _≡_ {A = ℕ} 0 1 = cc in omega arith) }
+near-sleep b (Publish l t) = record { nine = omega arith; slept = λ w h. absurd (let u : _≡_ {A = ℕ} 0 1 = cc in omega arith) }
+near-sleep b (Check l t) = record { nine = omega arith; slept = λ w h. absurd (let u : _≡_ {A = ℕ} 0 1 = cc in omega arith) }
+near-sleep b (Raise l t) = record { nine = omega arith; slept = λ w h. absurd (let u : _≡_ {A = ℕ} 0 1 = cc in omega arith) }
+near-sleep b (Wake l t) = record { nine = omega arith; slept = λ w h. absurd (let u : _≡_ {A = ℕ} 0 1 = cc in omega arith) }
+near-sleep b Gate = record { nine = omega arith; slept = λ w h. absurd (omega arith) }
+near-sleep b Epoch = record { nine = omega arith; slept = λ w h. absurd (omega arith) }
+near-sleep b (Again e) = record { nine = at-most (eqb b e) 3 9 (omega arith) (omega arith); slept = λ w h. absurd (not-none (eqb b e) 3 9 (omega arith) (omega arith) h) }
+near-sleep b (GateAgain e) = record { nine = at-most (eqb b e) 2 8 (omega arith) (omega arith); slept = λ w h. absurd (not-none (eqb b e) 2 8 (omega arith) (omega arith) h) }
+near-sleep b (Wait e) = record { nine = at-most (eqb b e) 1 7 (omega arith) (omega arith); slept = λ w h. absurd (not-none (eqb b e) 1 7 (omega arith) (omega arith) h) }
+near-sleep b Asleep = record { nine = omega arith; slept = λ w h. refl }
+near-sleep b (LastLook c) = record { nine = omega arith; slept = λ w h. absurd (let u : _≡_ {A = ℕ} 0 1 = cc in omega arith) }
+near-sleep b CloseSet = record { nine = omega arith; slept = λ w h. absurd (let u : _≡_ {A = ℕ} 0 1 = cc in omega arith) }
+near-sleep b CloseRaise = record { nine = omega arith; slept = λ w h. absurd (let u : _≡_ {A = ℕ} 0 1 = cc in omega arith) }
+near-sleep b CloseWake = record { nine = omega arith; slept = λ w h. absurd (let u : _≡_ {A = ℕ} 0 1 = cc in omega arith) }
+near-sleep b (ShutSet c) = record { nine = omega arith; slept = λ w h. absurd (let u : _≡_ {A = ℕ} 0 1 = cc in omega arith) }
+near-sleep b (ShutRaiseNe c) = record { nine = omega arith; slept = λ w h. absurd (let u : _≡_ {A = ℕ} 0 1 = cc in omega arith) }
+near-sleep b (ShutWakeNe c) = record { nine = omega arith; slept = λ w h. absurd (let u : _≡_ {A = ℕ} 0 1 = cc in omega arith) }
+near-sleep b (ShutRaiseNf c e) = record { nine = omega arith; slept = λ w h. absurd (let u : _≡_ {A = ℕ} 0 1 = cc in omega arith) }
+near-sleep b (ShutWakeNf c e) = record { nine = omega arith; slept = λ w h. absurd (let u : _≡_ {A = ℕ} 0 1 = cc in omega arith) }
 
 -- nothing that a waiter does stores anything
 pub wait-stores-none : (s : Step) → inWait s ≡ true → setsNone s ≡ true
-wait-stores-none Rest w = absurd (let u : _≡_ {A = ℕ} 0 1 = cc in omega arith)
-wait-stores-none Look w = refl
-wait-stores-none Copy w = absurd (let u : _≡_ {A = ℕ} 0 1 = cc in omega arith)
-wait-stores-none (Publish l t) w = absurd (let u : _≡_ {A = ℕ} 0 1 = cc in omega arith)
-wait-stores-none (Check l t) w = absurd (let u : _≡_ {A = ℕ} 0 1 = cc in omega arith)
-wait-stores-none (Raise l t) w = absurd (let u : _≡_ {A = ℕ} 0 1 = cc in omega arith)
-wait-stores-none (Wake l t) w = absurd (let u : _≡_ {A = ℕ} 0 1 = cc in omega arith)
-wait-stores-none Gate w = refl
-wait-stores-none Epoch w = refl
-wait-stores-none (Again e) w = refl
-wait-stores-none (GateAgain e) w = refl
-wait-stores-none (Wait e) w = refl
-wait-stores-none Asleep w = refl
-wait-stores-none (LastLook c) w = absurd (let u : _≡_ {A = ℕ} 0 1 = cc in omega arith)
-wait-stores-none CloseSet w = absurd (let u : _≡_ {A = ℕ} 0 1 = cc in omega arith)
-wait-stores-none CloseRaise w = absurd (let u : _≡_ {A = ℕ} 0 1 = cc in omega arith)
-wait-stores-none CloseWake w = absurd (let u : _≡_ {A = ℕ} 0 1 = cc in omega arith)
-wait-stores-none (ShutSet c) w = absurd (let u : _≡_ {A = ℕ} 0 1 = cc in omega arith)
-wait-stores-none (ShutRaiseNe c) w = absurd (let u : _≡_ {A = ℕ} 0 1 = cc in omega arith)
-wait-stores-none (ShutWakeNe c) w = absurd (let u : _≡_ {A = ℕ} 0 1 = cc in omega arith)
-wait-stores-none (ShutRaiseNf c e) w = absurd (let u : _≡_ {A = ℕ} 0 1 = cc in omega arith)
-wait-stores-none (ShutWakeNf c e) w = absurd (let u : _≡_ {A = ℕ} 0 1 = cc in omega arith)
+wait-stores-none = sets-none inWait refl (λ c. refl)
 
 pub wait-bell : (side : Side) (n : ℕ) (b : Bell) (c : ℕ) (s : Step) → inWait s ≡ true → bellBy (nextAt s side n) b c ≡ c
 wait-bell side n b c Rest w = absurd (let u : _≡_ {A = ℕ} 0 1 = cc in omega arith)

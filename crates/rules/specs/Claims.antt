@@ -11,7 +11,7 @@ use Rattle.types.specs.declared.Side.the-variants.{Sender, Recorder}
 use Rattle.types.specs.declared.Fault.{Fault}
 use Rattle.types.specs.declared.Fault.the-variants.{Fine, Error}
 use Rattle.types.specs.declared.Step.{Step}
-use Rattle.types.specs.declared.Step.the-variants.{Rest, Look, Publish, Check, Wake, Asleep, LastLook, CloseSet, ShutSet}
+use Rattle.types.specs.declared.Step.the-variants.{Rest, Look, Publish, Check, Wake, Asleep, CloseSet, ShutSet}
 use Rattle.types.specs.declared.Stance.{Stance}
 use Rattle.types.specs.declared.Event.{Event}
 use Rattle.types.specs.declared.Event.the-variants.{Turn, Failing}

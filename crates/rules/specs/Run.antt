@@ -14,13 +14,13 @@ use Rattle.types.specs.declared.Party.{Party}
 use Rattle.types.specs.declared.Fault.{Fault}
 use Rattle.types.specs.declared.Fault.the-variants.{Fine, Error}
 use Rattle.types.specs.declared.Step.{Step}
-use Rattle.types.specs.declared.Step.the-variants.{Rest, Look, Copy, Publish, Check, Raise, Wake, Gate, Epoch, Again, GateAgain, Wait, Asleep, LastLook, CloseSet, CloseRaise, CloseWake, ShutSet, ShutRaiseNe, ShutWakeNe, ShutRaiseNf, ShutWakeNf}
 use Rattle.types.specs.declared.Access.{Access}
 use Rattle.types.specs.declared.Access.the-variants.{None, LoadCounter, LoadFlags, LoadBell, WriteSlot, ReadSlot, StoreCounter, RaiseBell, SetFlag, WaitBell, WakeBell}
 use Rattle.types.specs.declared.Bench.{Bench}
 use Rattle.types.specs.declared.Event.{Event}
 use Rattle.types.specs.declared.Event.the-variants.{Turn, Failing, Spurious, TimeOut, Push, Pop, Close, Shutdown}
 use Rattle.layout.specs.Attach.{unattached, attachAnswer, attachReply, attachLeaves}
+use Rattle.rules.specs.Phase.{Phase, resting, looking, copying, publishing, telling, asking, armed, poised, waits, sleeps, glancing, leaving, phase}
 use Rattle.rules.specs.Next.{nextSpec}
 use Rattle.rules.specs.Turn.{taken, actBuffer}
 use Rattle.rules.specs.Bench.{partyOf, seat, played, playedLeaves}
@@ -93,29 +93,22 @@ abbrev pub counted : Bell → (ℕ → ℕ) → Trace → Trace
 counted NotFull f t = record { buffer = t .buffer; hand = t .hand; sent = t .sent; delivered = t .delivered; rungSender = f (t .rungSender); rungRecorder = t .rungRecorder }
 counted NotEmpty f t = record { buffer = t .buffer; hand = t .hand; sent = t .sent; delivered = t .delivered; rungSender = t .rungSender; rungRecorder = f (t .rungRecorder) }
 
+abbrev pub carriedAt : Phase → Carried
+carriedAt resting = record { length = 0; tag = 0 }
+carriedAt looking = record { length = 0; tag = 0 }
+carriedAt copying = record { length = 0; tag = 0 }
+carriedAt (publishing l t) = record { length = l; tag = t }
+carriedAt (telling l t) = record { length = l; tag = t }
+carriedAt asking = record { length = 0; tag = 0 }
+carriedAt (armed e) = record { length = 0; tag = 0 }
+carriedAt (poised e) = record { length = 0; tag = 0 }
+carriedAt (waits e) = record { length = 0; tag = 0 }
+carriedAt sleeps = record { length = 0; tag = 0 }
+carriedAt glancing = record { length = 0; tag = 0 }
+carriedAt leaving = record { length = 0; tag = 0 }
+
 abbrev pub carried : Step → Carried
-carried Rest = record { length = 0; tag = 0 }
-carried Look = record { length = 0; tag = 0 }
-carried Copy = record { length = 0; tag = 0 }
-carried (Publish l t) = record { length = l; tag = t }
-carried (Check l t) = record { length = l; tag = t }
-carried (Raise l t) = record { length = l; tag = t }
-carried (Wake l t) = record { length = l; tag = t }
-carried Gate = record { length = 0; tag = 0 }
-carried Epoch = record { length = 0; tag = 0 }
-carried (Again e) = record { length = 0; tag = 0 }
-carried (GateAgain e) = record { length = 0; tag = 0 }
-carried (Wait e) = record { length = 0; tag = 0 }
-carried Asleep = record { length = 0; tag = 0 }
-carried (LastLook c) = record { length = 0; tag = 0 }
-carried CloseSet = record { length = 0; tag = 0 }
-carried CloseRaise = record { length = 0; tag = 0 }
-carried CloseWake = record { length = 0; tag = 0 }
-carried (ShutSet c) = record { length = 0; tag = 0 }
-carried (ShutRaiseNe c) = record { length = 0; tag = 0 }
-carried (ShutWakeNe c) = record { length = 0; tag = 0 }
-carried (ShutRaiseNf c e) = record { length = 0; tag = 0 }
-carried (ShutWakeNf c e) = record { length = 0; tag = 0 }
+carried s = carriedAt (phase s)
 
 abbrev pub traced : Access → Party → (payload buffer : List ℕ) → Trace → Trace
 traced None p payload buffer t = t

@@ -13,10 +13,13 @@ use Rattle.types.specs.declared.Party.{Party}
 use Rattle.types.specs.declared.Fault.{Fault}
 use Rattle.types.specs.declared.Step.{Step}
 use Rattle.types.specs.declared.Step.the-variants.{Rest, Look, Copy, Publish, Check, Raise, Wake, Gate, Epoch, Again, GateAgain, Wait, Asleep, LastLook, CloseSet, CloseRaise, CloseWake, ShutSet, ShutRaiseNe, ShutWakeNe, ShutRaiseNf, ShutWakeNf}
+use Rattle.types.specs.declared.Stance.{Stance}
+use Rattle.types.specs.declared.Stance.the-variants.{Resting, Sleeping, Copying, Publishing, Closing, Moving}
 use Rattle.layout.specs.Limits.{slotHeadBytes}
 use Rattle.layout.specs.Header.{flagsAt, counterAt, bellAt}
 use Rattle.layout.specs.Slots.{headWord}
 use Rattle.rules.specs.Sides.{other, ringBell, sleepBell}
+use Rattle.rules.specs.Take.{stanceOf}
 use Rattle.rules.specs.Access.{placeOf, slotOf}
 use Rattle.rules.specs.Turn.{turnSpec, turnLeaves, turnBuffer}
 
@@ -101,29 +104,16 @@ abbrev pub slotGiven : Side → List ℕ → List ℕ → Party → Type 0
 slotGiven Sender r s p = Unit
 slotGiven Recorder r s p = slotOf r (p .own) (p .counter) ≡ slotOf s (p .own) (p .counter)
 
+abbrev pub givenAt : Stance → Side → (r s : List ℕ) → Party → Type 0
+givenAt Resting side r s p = Unit
+givenAt Sleeping side r s p = Unit
+givenAt Copying side r s p = slotGiven side r s p
+givenAt Publishing side r s p = Unit
+givenAt Closing side r s p = Unit
+givenAt Moving side r s p = Unit
+
 abbrev pub GivenBy : Side → Step → (r s : List ℕ) → Party → Type 0
-GivenBy side Rest r s p = Unit
-GivenBy side Look r s p = Unit
-GivenBy side Copy r s p = slotGiven side r s p
-GivenBy side (Publish l t) r s p = Unit
-GivenBy side (Check l t) r s p = Unit
-GivenBy side (Raise l t) r s p = Unit
-GivenBy side (Wake l t) r s p = Unit
-GivenBy side Gate r s p = Unit
-GivenBy side Epoch r s p = Unit
-GivenBy side (Again e) r s p = Unit
-GivenBy side (GateAgain e) r s p = Unit
-GivenBy side (Wait e) r s p = Unit
-GivenBy side Asleep r s p = Unit
-GivenBy side (LastLook c) r s p = Unit
-GivenBy side CloseSet r s p = Unit
-GivenBy side CloseRaise r s p = Unit
-GivenBy side CloseWake r s p = Unit
-GivenBy side (ShutSet c) r s p = Unit
-GivenBy side (ShutRaiseNe c) r s p = Unit
-GivenBy side (ShutWakeNe c) r s p = Unit
-GivenBy side (ShutRaiseNf c e) r s p = Unit
-GivenBy side (ShutWakeNf c e) r s p = Unit
+GivenBy side step r s p = givenAt (stanceOf step) side r s p
 
 module _ (side : Side) (p : Party) (payload buffer : List ℕ) (fault : Fault) where
   abbrev pub touch : Touch

@@ -11,8 +11,9 @@ use Rattle.types.specs.declared.Side.the-variants.{Sender, Recorder}
 use Rattle.types.specs.declared.Party.{Party}
 use Rattle.types.specs.declared.Fault.{Fault}
 use Rattle.types.specs.declared.Step.{Step}
-use Rattle.types.specs.declared.Step.the-variants.{Rest, Look, Copy, Publish, Check, Raise, Wake, Gate, Epoch, Again, GateAgain, Wait, Asleep, LastLook, CloseSet, CloseRaise, CloseWake, ShutSet, ShutRaiseNe, ShutWakeNe, ShutRaiseNf, ShutWakeNf}
 use Rattle.layout.specs.Limits.{powerOk, slotOk, payloadCapacity, totalBytes}
+use Rattle.types.specs.declared.Access.{Access}
+use Rattle.rules.proofs.Does.{Does, does, nothing, looks, flags, reads as epoch, writes, takes, stores as store, raises as ring, closes as close, shuts as shut, waits as wait, wakes as wake}
 use Rattle.rules.specs.Sides.{sameSide}
 use Rattle.rules.specs.Take.{stanceOf}
 use Rattle.rules.specs.Next.{slotAccess, nextAt, nextSpec}
@@ -31,28 +32,23 @@ module _ (n slot payload named buffer : ℕ) where
 
   lent-at : (side own : Side) → sameSide side own ≡ true → lengthOk side named slot ≡ true → (step : Step) → lentOk (stanceOf step) (lentTo side payload buffer) named ≡ true
       → Lent (nextAt step own n) slot payload named buffer
-  lent-at side own same long Rest k = tt
-  lent-at side own same long Look k = tt
-  lent-at side own same long Copy k = lent-copy side own same long k
-  lent-at side own same long (Publish len tag) k = tt
-  lent-at side own same long (Check len tag) k = tt
-  lent-at side own same long (Raise len tag) k = tt
-  lent-at side own same long (Wake len tag) k = tt
-  lent-at side own same long Gate k = tt
-  lent-at side own same long Epoch k = tt
-  lent-at side own same long (Again e) k = tt
-  lent-at side own same long (GateAgain e) k = tt
-  lent-at side own same long (Wait e) k = tt
-  lent-at side own same long Asleep k = tt
-  lent-at side own same long (LastLook c) k = tt
-  lent-at side own same long CloseSet k = tt
-  lent-at side own same long CloseRaise k = tt
-  lent-at side own same long CloseWake k = tt
-  lent-at side own same long (ShutSet c) k = tt
-  lent-at side own same long (ShutRaiseNe c) k = tt
-  lent-at side own same long (ShutWakeNe c) k = tt
-  lent-at side own same long (ShutRaiseNf c e) k = tt
-  lent-at side own same long (ShutWakeNf c e) k = tt
+  lent-at side own same long step k = by own step (nextAt step own n) (does own n step) same k
+    where
+      by : (own : Side) (step : Step) (a : Access) → Does own n step a → sameSide side own ≡ true → lentOk (stanceOf step) (lentTo side payload buffer) named ≡ true → Lent a slot payload named buffer
+      by own step a (nothing l) same k = tt
+      by own step a (looks l) same k = tt
+      by own step a (flags l) same k = tt
+      by own step a epoch same k = tt
+      by Sender step a (writes q) same k = lent-copy side Sender same long k
+      by Recorder step a (writes q) same k = absurd (let z : _≡_ {A = ℕ} 0 1 = cc in omega arith)
+      by Sender step a (takes q) same k = absurd (let z : _≡_ {A = ℕ} 0 1 = cc in omega arith)
+      by Recorder step a (takes q) same k = lent-copy side Recorder same long k
+      by own step a store same k = tt
+      by own step a (ring l b) same k = tt
+      by own step a close same k = tt
+      by own step a shut same k = tt
+      by own step a wait same k = tt
+      by own step a (wake l b m) same k = tt
 
 module _ (side : Side) (p : Party) (region payload buffer : ℕ) (fault : Fault) (go : goes side p region payload buffer fault ≡ true) where
   record-ok : sound side p ≡ true
