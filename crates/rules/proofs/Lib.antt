@@ -38,6 +38,7 @@ pub mod Ending
 pub mod Delivers
 pub mod Sealed
 pub mod OverNone
+pub mod Told
 pub mod Sized
 pub mod UntilSleep
 pub mod Drowsy

@@ -192,6 +192,15 @@ module _ (region : List ℕ) (power slot : ℕ) (notfull : Bool) (start : ℕ) w
       → turnSpec Recorder (reached hs .region) (partyIn (reached hs) Recorder) payload lent fault .answer ≡ Closed
       → reached (hs ++ ms) .trace .sent ≡ reached hs .trace .delivered
 
+  -- it is told so: a blocking pop at its look, with nothing waiting, the sender closed and nobody shut down, answers 11 at its third
+  -- turn, where none of its turns fails
+  abbrev pub ToldClosed : Type 0
+  ToldClosed = (hs ms : List Happening) → AllTyped hs
+      → waiting (reached hs) ≡ 0 → down (reached hs) ≡ false → closedBit Sender (reached hs) ≡ true
+      → partyIn (reached hs) Recorder .step ≡ Look → partyIn (reached hs) Recorder .blocking ≡ true → Turns Recorder ms → ticks ms (reached hs) ≡ 2
+      → (payload lent : List ℕ) → takes (reached (hs ++ ms)) Recorder payload lent Fine ≡ true
+      → turnSpec Recorder (reached (hs ++ ms) .region) (partyIn (reached (hs ++ ms)) Recorder) payload lent Fine .answer ≡ Closed
+
   -- and whatever is answered 13 is answered so over no room: no note for the recorder, no free slot for the sender
   abbrev pub TimeoutOverNone : Side → Type 0
   TimeoutOverNone side = (hs : List Happening) → AllTyped hs → (e : Event) (payload lent : List ℕ) → OwnDoing side (plays e payload lent)
