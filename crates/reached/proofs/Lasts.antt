@@ -1,8 +1,8 @@
 -- What a willing stretch needs of each turn: a call under way stays under way.
-use mathlib.Core.Path.{_≡_, refl, ap}
+use mathlib.Core.Path.{_≡_, refl, ap, subst}
 use mathlib.Core.Bool.{Bool, true}
 use mathlib.Core.List.{List, _∷_, _++_}
-use mathlib.Core.Logic.{_⊎_, inl, inr}
+use mathlib.Core.Logic.{_⊎_, inl, inr, ⊎-elim}
 use Prim.Native.Nat.{ℕ, _+_, _-_, _^_, _<_, _≤_}
 use native.Mathlib.Omega.{arith}
 use lib.ListN.{length}
@@ -10,7 +10,6 @@ use Rattle.types.specs.declared.Side.{Side}
 use Rattle.types.specs.declared.Side.the-variants.{Sender, Recorder}
 use Rattle.types.specs.declared.Party.{Party}
 use Rattle.types.specs.declared.Fault.the-variants.{Fine}
-use Rattle.types.specs.declared.Access.{Access}
 use Rattle.types.specs.declared.Door.{Door}
 use Rattle.types.specs.declared.Step.{Step}
 use Rattle.types.specs.declared.Step.the-variants.{Epoch}
@@ -22,7 +21,8 @@ use Rattle.rules.specs.Premises.{FairTurn}
 use Rattle.rules.specs.Stretch.{Big, notesOf, beforeCopy, holdsEpoch, Underway}
 use Rattle.rules.specs.Phase.{phase}
 use Rattle.rules.proofs.Leads.{Leads, idles, finds, blocks, gives-up, copies, spills, tells, stores, owes, passes, raises, wakes, enters, stops, reads, finds-again, stays, enters-again, stops-again, returns, ends, dreams, glances, glances-again, times-out, finds-last, finds-none, closes, closes-alone, close-raises, close-wakes, shuts, shut-raises, shut-wakes, shut-raises-again, shut-wakes-again, sleeps as falls-asleep}
-use Rattle.rules.proofs.Does.{Does, does, nothing, looks, flags, writes, reads as epoch, takes as take-slot, stores as store, raises as ring, closes as close, shuts as shut, waits as wait, wakes as wake}
+use Rattle.rules.proofs.Does.{does}
+use Rattle.rules.proofs.Parting.{closed-by}
 use Rattle.rules.proofs.Own.{waitsOn}
 use Rattle.rules.proofs.Costs.{Calls}
 
@@ -108,21 +108,7 @@ epoch-on k x z m r b s next shut-wakes-again e = absurd (let u : _≡_ {A = ℕ}
 
 -- a push or a pop does not close its party
 pub stays-open : (s : Step) → Calls (phase s) → (b : Bool) → closedAfter (stanceOf s) b ≡ b
-stays-open s y b = by s (nextAt s Sender 0) (does Sender 0 s) y
-  where
-    by : (s : Step) (a : Access) → Does Sender 0 s a → Calls (phase s) → closedAfter (stanceOf s) b ≡ b
-    by s a (nothing l) y = l .closed b
-    by s a (looks l) y = l .closed b
-    by s a (flags l) y = l .closed b
-    by s a epoch y = refl
-    by s a (writes q) y = refl
-    by s a (take-slot q) y = refl
-    by s a store y = refl
-    by s a (ring l c) y = l .closed b
-    by s a close y = absurd y
-    by s a shut y = refl
-    by s a wait y = refl
-    by s a (wake l c m) y = l .closed b
+stays-open s y b = ⊎-elim (λ q. q) (λ q. absurd (subst (λ (u : Step). Calls (phase u)) q y)) (closed-by Sender 0 s (nextAt s Sender 0) (does Sender 0 s) b)
 
 module _ (p : Party) (payload buffer : List ℕ) (t : Trace) where
   -- the epoch's turn counts anew

@@ -33,8 +33,7 @@ use Rattle.rules.proofs.Taken.{turnWorld, turn-refused}
 use Rattle.rules.proofs.RealTurn.{own-is, counter-is, access-is, next-step, leads-here, after-turn, turn-is-after}
 use Rattle.rules.proofs.Heard.{Cause, none, duty, roomBy}
 use Rattle.rules.proofs.Costs.{cost, Calls, ownRoom, fall, calls-on}
-use Rattle.rules.proofs.Effects.{room-own-is, room-other-is}
-use Rattle.rules.proofs.Listening.{duty-kept, mover-is, waiter-is, trace-is}
+use Rattle.rules.proofs.Listening.{duty-kept, mover-is, waiter-is, trace-is, room-after, other-room-after}
 use Rattle.rules.proofs.Fits.{no-spill}
 use Rattle.rules.proofs.Real.{roomIn, HasRoom, Real}
 
@@ -184,6 +183,9 @@ module _ (P S v : ℕ) (on : Bool) where
       abbrev value : ℕ
       value = valueOf (w .region) (p .own) (nextSpec p)
 
+      pub none-after : roomIn P S v on side t ≡ 0 → roomIn P S v on side (after .trace) ≡ 0
+      none-after h = room-after P S v on power-ok slot-ok w real side payload lent fault g ∙ ap (ownRoom s) h ∙ own-room-none s
+
       stays-at-rest : s ≡ Rest → next ≡ Rest
       unfolding moveOf
       stays-at-rest e = ap (λ (u : Step). stepAfter (moveAt u (p .own) (p .counter) (p .blocking) (p .length) value (errorOf fault)) u) e
@@ -210,7 +212,7 @@ module _ (P S v : ℕ) (on : Bool) where
           record {
             quiet = ap (λ (q : Party). duty (other side) (q .step)) them ∙ duty-kept P S v on power-ok slot-ok w real side payload lent fault g ∙ go .quiet;
             calls = rw me (calls-on _ _ _ _ _ _ s next leads (go .calls));
-            left = rw (me, trail, room-own-is p payload buffer t P S v on (w .region) (real .queue) side s (real .sides side .room), room-other-is p payload buffer t P S v on (w .region) (real .queue) side s (real .sides side .room))
+            left = rw (me, room-after P S v on power-ok slot-ok w real side payload lent fault g, other-room-after P S v on power-ok slot-ok w real side payload lent fault g)
                 (turn-cost counted count k _ _ _ _ _ n s next leads (kind s) (go .calls) stays-at-rest dreams-on awake (λ h. fits-here big) (go .left));
             same = ap (notesOf (other side)) trail ∙ notes-kept p payload buffer t side (p .counter) s (nextAt s side (p .counter)) (does side (p .counter) s) ∙ go .same;
           }

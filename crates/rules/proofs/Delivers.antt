@@ -80,8 +80,8 @@ module _ (r : List ℕ) (P S : ℕ) (on : Bool) (v : ℕ) (fresh : Fresh r P S o
       let w = reached r P S on v hs in
       let p = partyIn w Recorder in
       let real = real-reached r P S on v fresh hs typed in
-      let pow = power-fits r P S on v fresh in
-      let slo = slot-fits r P S on v fresh in
+      let power-ok = power-fits r P S on v fresh in
+      let slot-ok = slot-fits r P S on v fresh in
       let value = valueOf (w .region) (p .own) (nextSpec p) in
       let a : answerOf (moveAt (p .step) (p .own) (p .counter) (p .blocking) (p .length) value (errorOf fault)) ≡ Done l t =
       sym (ap (λ (x : Turned). x .answer) (turn-is Recorder (w .region) p payload lent fault g)) ∙ e in
@@ -89,7 +89,7 @@ module _ (r : List ℕ) (P S : ℕ) (on : Bool) (v : ℕ) (fresh : Fresh r P S o
       let buffer = bufferOf (w .region) (p .own) (nextAt (p .step) Recorder (p .counter)) (p .length) lent in
       let held = carries P S v on (w .region) p payload buffer (w .trace) (p .step) d refl (real .sides Recorder .hand) in
       let last : happens (plays (turnOf Recorder fault) payload lent) w .trace ≡ traced (nextAt (p .step) Recorder (p .counter)) p payload buffer (w .trace) =
-      ap (λ (u : World). u .trace) (turn-happens payload lent fault w ∙ turn-is-after P S v on pow slo w real Recorder payload lent fault g) ∙ trace-is P S v on pow slo w real Recorder payload lent fault g in
+      ap (λ (u : World). u .trace) (turn-happens payload lent fault w ∙ turn-is-after P S v on power-ok slot-ok w real Recorder payload lent fault g) ∙ trace-is P S v on power-ok slot-ok w real Recorder payload lent fault g in
       subst (Carries l t) (sym last) (rw (← n .0, ← n .1) held)
 
   -- where nothing waits, all that was sent has been delivered

@@ -18,7 +18,7 @@ use Rattle.types.specs.declared.Access.the-variants.{None, LoadCounter, LoadFla
 use Rattle.layout.specs.Flags.{closeMark}
 use Rattle.rules.specs.Sides.{other, ringBell, sleepBell}
 use Rattle.rules.specs.Take.{stanceOf, counterAfter, closedAfter}
-use Rattle.rules.specs.Next.{slotAccess, nextAt}
+use Rattle.rules.specs.Next.{one, all, slotAccess, nextAt}
 
 -- what a store of the own counter takes of the own room, and gives of the other's
 abbrev pub less : ℕ → ℕ
@@ -89,7 +89,7 @@ does side n Copy = copying side n
 does side n (Publish l t) = stores
 does side n (Check l t) = looks (plain Moving refl)
 does side n (Raise l t) = raises (plain Moving refl) (ringBell side)
-does side n (Wake l t) = wakes (plain Moving refl) (ringBell side) 1
+does side n (Wake l t) = wakes (plain Moving refl) (ringBell side) one
 does side n Gate = flags (plain Moving refl)
 does side n Epoch = reads
 does side n (Again e) = looks (plain Moving refl)
@@ -99,9 +99,9 @@ does side n Asleep = nothing (plain Sleeping refl)
 does side n (LastLook c) = looks (plain Moving refl)
 does side n CloseSet = closes
 does side n CloseRaise = raises (plain Moving refl) (ringBell side)
-does side n CloseWake = wakes (plain Moving refl) (ringBell side) 2147483647
+does side n CloseWake = wakes (plain Moving refl) (ringBell side) all
 does side n (ShutSet c) = shuts
 does side n (ShutRaiseNe c) = raises (plain Moving refl) NotEmpty
-does side n (ShutWakeNe c) = wakes (plain Moving refl) NotEmpty 2147483647
+does side n (ShutWakeNe c) = wakes (plain Moving refl) NotEmpty all
 does side n (ShutRaiseNf c e) = raises (plain Moving refl) NotFull
-does side n (ShutWakeNf c e) = wakes (plain Moving refl) NotFull 2147483647
+does side n (ShutWakeNf c e) = wakes (plain Moving refl) NotFull all

@@ -23,7 +23,7 @@ use Rattle.rules.specs.Sides.{other, rings, sleepBell}
 use Rattle.rules.specs.Looks.{doorOf}
 use Rattle.rules.specs.Take.{stanceOf, stepAfter, moveAt, moveOf}
 use Rattle.rules.specs.Next.{nextAt, nextSpec}
-use Rattle.rules.specs.Access.{valueOf, bufferOf}
+use Rattle.rules.specs.Access.{valueOf}
 use Rattle.rules.specs.Bench.{settled, played, playedLeaves}
 use Rattle.rules.specs.Run.{World, Happening, attaches, plays, partyIn, takes, happens, run, opened}
 use Rattle.rules.specs.Stretch.{moves, countsBy, ticks, inWait, Turns}
@@ -34,14 +34,12 @@ use Rattle.rules.proofs.Kept.{header-in}
 use Rattle.rules.proofs.Leads.{stopAt, stop-barred, open-door, Leads}
 use Rattle.rules.proofs.Taken.{turnWorld, turn-refused}
 use Rattle.rules.proofs.Seats.{moved}
-use Rattle.rules.proofs.RealTurn.{access-is, next-step, leads-here, after-turn, turn-is-after, real-turned}
+use Rattle.rules.proofs.RealTurn.{access-is, next-step, leads-here, after-turn, turn-is-after, real-after}
 use Rattle.rules.proofs.RealRun.{power-fits, slot-fits, real-reached}
 use Rattle.rules.proofs.Does.{less}
-use Rattle.rules.proofs.Costs.{ownRoom}
-use Rattle.rules.proofs.Effects.{room-own-is, flags-still}
-use Rattle.rules.proofs.Listening.{mover-is, trace-is, flags-left}
+use Rattle.rules.proofs.Listening.{mover-is, flags-same}
 use Rattle.rules.proofs.Causes.{room-is}
-use Rattle.rules.proofs.Bound.{own-room-none}
+use Rattle.rules.proofs.Bound.{none-after}
 use Rattle.rules.proofs.Asks.{run-parts}
 use Rattle.rules.proofs.Real.{roomIn, Real}
 use Rattle.rules.proofs.UntilSleep.{drowse, nap-step, near-sleep, toSleep, wait-bell, wait-stores-none}
@@ -102,11 +100,9 @@ module _ (P S v : ℕ) (on : Bool) (power-ok : powerOk P ≡ true) (slot-ok : sl
     drowsy-after : Drowsy side (less (toSleep (bell side w) s)) after
     drowsy-after =
         record {
-          real = subst (Real P S v on) (turn-is-after P S v on power-ok slot-ok w (d .real) side payload lent Fine g) (real-turned P S v on power-ok slot-ok w (d .real) side payload lent Fine);
-          room = ap (roomIn P S v on side) (trace-is P S v on power-ok slot-ok w (d .real) side payload lent Fine g)
-              ∙ room-own-is p payload (bufferOf (w .region) (p .own) a (p .length) lent) (w .trace) P S v on (w .region) (d .real .queue) side s (d .real .sides side .room)
-              ∙ ap (ownRoom s) (d .room) ∙ own-room-none s;
-          clear = ap (stopAt side) (flags-left P S v on power-ok slot-ok w (d .real) side payload lent Fine g ∙ flags-still side (p .counter) (leAt 4 (w .region) flagsAt) s (wait-stores-none s (d .waits))) ∙ d .clear;
+          real = real-after P S v on power-ok slot-ok w (d .real) side payload lent Fine g;
+          room = none-after P S v on power-ok slot-ok w (d .real) side payload lent Fine g (d .room);
+          clear = ap (stopAt side) (flags-same P S v on power-ok slot-ok w (d .real) side payload lent Fine g (wait-stores-none s (d .waits))) ∙ d .clear;
           blocking = ap (λ (q : Party). q .blocking) me ∙ d .blocking;
           waits = rw me (drowses .0);
           left = rw (me, bell-same) (drowses .1);
@@ -183,10 +179,10 @@ module _ (r : List ℕ) (P S : ℕ) (on : Bool) (v : ℕ) (fresh : Fresh r P S o
   sleeps side hs ms t none up other-up mode waits turns long =
       let w = reached r P S on v hs in
       let b = leAt 4 (w .region) (bellAt (sleepBell side)) in
-      let pow = power-fits r P S on v fresh in
-      let slo = slot-fits r P S on v fresh in
+      let power-ok = power-fits r P S on v fresh in
+      let slot-ok = slot-fits r P S on v fresh in
       let s = partyIn w side .step in
-      let start : Drowsy P S v on pow slo side (toSleep b s) w =
+      let start : Drowsy P S v on power-ok slot-ok side (toSleep b s) w =
       record {
         real = real-reached r P S on v fresh hs t;
         room = sym (room-is r P S on v fresh side hs t) ∙ none;
@@ -195,7 +191,7 @@ module _ (r : List ℕ) (P S : ℕ) (on : Bool) (v : ℕ) (fresh : Fresh r P S o
         waits = waits;
         left = omega arith;
       } in
-      let done = sleeping-run P S v on pow slo side ms w turns (toSleep b s) start (omega (arith, near-sleep b s .nine)) in (
+      let done = sleeping-run P S v on power-ok slot-ok side ms w turns (toSleep b s) start (omega (arith, near-sleep b s .nine)) in (
         done .0,
         (
           done .1 .0,

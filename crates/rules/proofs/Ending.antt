@@ -27,7 +27,6 @@ use Rattle.layout.specs.Create.{created}
 use Rattle.rules.specs.Sides.{other, rings}
 use Rattle.rules.specs.Take.{stanceOf}
 use Rattle.rules.specs.Next.{nextAt}
-use Rattle.rules.specs.Access.{bufferOf}
 use Rattle.rules.specs.Calls.{pushSpec, popSpec, closeSpec, shutSpec, spuriousSpec, timeoutSpec}
 use Rattle.rules.specs.Bench.{settled, played, playedLeaves}
 use Rattle.rules.specs.Run.{World, Happening, attaches, plays, partyIn, takes, happens, run, opened}
@@ -45,9 +44,8 @@ use Rattle.rules.proofs.RealRun.{power-fits, slot-fits, real-reached, r
 use Rattle.rules.proofs.Heard.{Cause, none, duty}
 use Rattle.rules.proofs.Does.{less}
 use Rattle.rules.proofs.Costs.{ownRoom}
-use Rattle.rules.proofs.Effects.{room-own-is}
 use Rattle.rules.proofs.Nearer.{toRest, room-le, near, nearer}
-use Rattle.rules.proofs.Listening.{duty-kept, mover-is, waiter-is, trace-is, flags-left}
+use Rattle.rules.proofs.Listening.{duty-kept, mover-is, waiter-is, room-after, flags-left}
 use Rattle.rules.proofs.Fairly.{Ready, ready-happens, quiet-duty, dozes}
 use Rattle.rules.proofs.Causes.{ready-reached}
 use Rattle.rules.proofs.Bound.{Count, by-moves, by-calling, moves-off, dreams-on}
@@ -132,13 +130,10 @@ module _ (P S v : ℕ) (on : Bool) where
         still-ending m l =
             let me = mover-is P S v on power-ok slot-ok w real side payload lent fault g in
             let them = waiter-is P S v on power-ok slot-ok w real side payload lent fault g in
-            let trail = trace-is P S v on power-ok slot-ok w real side payload lent fault g in
-            let p = partyIn w side in
-            let buffer = bufferOf (w .region) (p .own) (nextAt s side (p .counter)) (p .length) lent in
             record {
               quiet = ap (λ (q : Party). duty (other side) (q .step)) them ∙ duty-kept P S v on power-ok slot-ok w real side payload lent fault g ∙ d .quiet;
               up = ap (stopAt side) (flags-left P S v on power-ok slot-ok w real side payload lent fault g) ∙ stop-up side (nextAt s side (partyIn w side .counter)) (leAt 4 (w .region) flagsAt) (real .fixed .small) (d .up);
-              left = rw (me, trail, room-own-is p payload buffer (w .trace) P S v on (w .region) (real .queue) side s (real .sides side .room)) l;
+              left = rw (me, room-after P S v on power-ok slot-ok w real side payload lent fault g) l;
             }
 
         moves-nearer : (s ≡ Asleep → ⊥) → Then side n 1 after

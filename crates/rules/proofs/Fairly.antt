@@ -21,7 +21,7 @@ use Rattle.types.specs.declared.Access.{Access}
 use Rattle.types.specs.declared.Step.{Step}
 use Rattle.types.specs.declared.Step.the-variants.{Rest, Wait, Asleep}
 use Rattle.layout.specs.Limits.{powerOk, slotOk}
-use Rattle.layout.specs.Flags.{worth, setBit, attachMark, closeMark}
+use Rattle.layout.specs.Flags.{worth, reservedFrom, setBit, attachMark, closeMark}
 use Rattle.layout.specs.Header.{flagsAt}
 use Rattle.layout.specs.Attach.{attachAnswer, attachReply, attachLeaves, attached}
 use Rattle.layout.proofs.FlagLaws.{mark-set}
@@ -108,7 +108,7 @@ module _ (P S v : ℕ) (on : Bool) where
   called-other w side q (inr b) false y = rw (seat-two side (w .bench) q) y
 
   -- an attach: whoever joins is at rest, and no flag that stops anybody changes
-  stop-kept : (side mover : Side) (f : ℕ) → f < 128 → stopAt side (setBit (worth (attachMark mover)) f) ≡ stopAt side f
+  stop-kept : (side mover : Side) (f : ℕ) → f < reservedFrom → stopAt side (setBit (worth (attachMark mover)) f) ≡ stopAt side f
   stop-kept Sender Sender f h = ap₂ _||_ (mark-set (attachMark Sender) f h ShutMark) (mark-set (attachMark Sender) f h (closeMark Recorder))
   stop-kept Sender Recorder f h = ap₂ _||_ (mark-set (attachMark Recorder) f h ShutMark) (mark-set (attachMark Recorder) f h (closeMark Recorder))
   stop-kept Recorder Sender f h = ap₂ _||_ (mark-set (attachMark Sender) f h ShutMark) (mark-set (attachMark Sender) f h (closeMark Sender))

@@ -14,17 +14,20 @@ use Rattle.types.specs.declared.Party.{Party}
 use Rattle.types.specs.declared.Door.{Door}
 use Rattle.types.specs.declared.Step.{Step}
 use Rattle.types.specs.declared.Step.the-variants.{Copy, Publish, Raise}
+use Rattle.types.specs.declared.Stance.{Stance}
+use Rattle.types.specs.declared.Stance.the-variants.{Resting, Sleeping, Copying, Publishing, Closing, Moving}
 use Rattle.types.specs.declared.Access.{Access}
 use Rattle.types.specs.declared.Access.the-variants.{StoreCounter}
 use Rattle.layout.specs.Limits.{slotHeadBytes, powerOk, slotOk, capacity}
 use Rattle.rules.specs.Sides.{other}
+use Rattle.rules.specs.Take.{stanceOf}
 use Rattle.rules.specs.Next.{nextAt}
 use Rattle.rules.specs.Access.{leavesOf}
 use Rattle.rules.specs.Run.{Note, Trace, Carried, published, carried, traced}
 use Rattle.rules.specs.Phase.{Phase, resting, looking, copying, publishing, telling, asking, armed, poised, waits, sleeps as asleep, glancing, leaving, phase}
-use Rattle.rules.proofs.Does.{Does, nothing, looks, flags, reads as epoch, writes, takes, stores as store, raises as ring, closes as close, shuts as shut, waits as wait, wakes as wake}
+use Rattle.rules.proofs.Effects.{room-other-is}
+use Rattle.rules.proofs.Does.{otherAfter, Does, nothing, looks, flags, reads as epoch, writes, takes, stores as store, raises as ring, closes as close, shuts as shut, waits as wait, wakes as wake}
 use Rattle.rules.proofs.Leads.{Leads, idles, finds, blocks, gives-up, copies, spills, tells, stores, owes, passes, raises, wakes, enters, stops, reads, finds-again, stays, enters-again, stops-again, sleeps, returns, ends, dreams, glances, glances-again, times-out, finds-last, finds-none, closes, closes-alone, close-raises, close-wakes, shuts, shut-raises, shut-wakes, shut-raises-again, shut-wakes-again}
-use Rattle.rules.proofs.Kept.{length-more}
 use Rattle.rules.proofs.Ring.{holds-kept, written-elsewhere, queue-still, queue-quiet, queue-sent, queue-got}
 use Rattle.rules.proofs.Real.{countOf, HasRoom, sizes, roomIn, nth, blank, HoldsAt, InHand, Fixed, Queue, has-more, free}
 
@@ -95,29 +98,17 @@ module _ (P S v : ℕ) (on : Bool) (power-ok : powerOk P ≡ true) (slot-ok : sl
   queue-kept side s a at o c (wake q b m) f h x = queue-quiet P S v on power-ok slot-ok r p payload fixed t buffer queue a (λ i. tt) refl refl
 
   -- the other's room is at least what it was
-  other-room : (side : Side) (s : Step) (a : Access) → Does side (p .counter) s a → roomIn P S v on (other side) t ≤ roomIn P S v on (other side) (told a)
-  other-room side s a (nothing q) = omega arith
-  other-room side s a (looks q) = omega arith
-  other-room side s a (flags q) = omega arith
-  other-room Sender s a epoch = omega arith
-  other-room Recorder s a epoch = omega arith
-  other-room Sender s a (writes q) = omega arith
-  other-room Recorder s a (writes q) = omega arith
-  other-room Sender s a (takes q) = omega arith
-  other-room Recorder s a (takes q) = omega arith
-  other-room Sender s a store = omega (arith, length-more (t .sent) (t .hand))
-  other-room Recorder s a store = rw (length-more (t .delivered) (record { tag = carried (p .step) .tag; body = take (carried (p .step) .length) (t .buffer) })) (omega arith)
-  other-room Sender s a (ring q NotEmpty) = omega arith
-  other-room Sender s a (ring q NotFull) = omega arith
-  other-room Recorder s a (ring q NotEmpty) = omega arith
-  other-room Recorder s a (ring q NotFull) = omega arith
-  other-room side s a close = omega arith
-  other-room side s a shut = omega arith
-  other-room side s a wait = omega arith
-  other-room side s a (wake q b m) = omega arith
-
-  pub room-other : (side : Side) (s : Step) (a : Access) (ph : Phase) → Does side (p .counter) s a → HasRoom ph (roomIn P S v on (other side) t) → HasRoom ph (roomIn P S v on (other side) (told a))
-  room-other side s a ph d h = has-more ph (roomIn P S v on (other side) t) (roomIn P S v on (other side) (told a)) (other-room side s a d) h
+  pub room-other : (side : Side) (s : Step) (ph : Phase) → HasRoom (phase s) (roomIn P S v on side t) → HasRoom ph (roomIn P S v on (other side) t)
+      → HasRoom ph (roomIn P S v on (other side) (told (nextAt s side (p .counter))))
+  room-other side s ph y h = rw (room-other-is p payload buffer t P S v on r queue side s y) (has-more ph _ _ (more (stanceOf s) (roomIn P S v on (other side) t)) h)
+    where
+      more : (u : Stance) (k : ℕ) → k ≤ otherAfter u k
+      more Resting k = omega arith
+      more Sleeping k = omega arith
+      more Copying k = omega arith
+      more Publishing k = omega arith
+      more Closing k = omega arith
+      more Moving k = omega arith
 
   copy-room : (side : Side) → roomIn P S v on side (told (nextAt Copy side (p .counter))) ≡ roomIn P S v on side t
   copy-room Sender = refl

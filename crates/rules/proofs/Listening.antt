@@ -36,7 +36,7 @@ use Rattle.rules.proofs.Seats.{moved, roused, roused-elim}
 use Rattle.rules.proofs.Leads.{stopAt, stop-barred}
 use Rattle.rules.proofs.Taken.{seat-own, seat-other}
 use Rattle.rules.proofs.RealTurn.{access-is, next-step, leads-here, after-turn}
-use Rattle.rules.proofs.Heard.{duty, Good, risen, rungBy, roomBy, wakesAt, theirs}
+use Rattle.rules.proofs.Heard.{duty, Good, risen, rungBy, roomBy, wakesAt, setsNone, theirs}
 use Rattle.rules.proofs.Own.{waitsOn, own, Tries, tries}
 use Rattle.rules.proofs.Rings.{owing, pays, holds-on}
 use Rattle.rules.proofs.Costs.{ownRoom}
@@ -137,6 +137,16 @@ module _ (P S v : ℕ) (on : Bool) (power-ok : powerOk P ≡ true) (slot-ok : sl
   unfolding after-turn
   trace-is = refl
 
+  -- the rooms after it; and the flags, where it sets none
+  pub room-after : roomIn P S v on side (after .trace) ≡ ownRoom s (roomIn P S v on side t)
+  room-after = ap (roomIn P S v on side) trace-is ∙ room-own-is p payload buffer t P S v on r (real .queue) side s (real .sides side .room)
+
+  pub other-room-after : roomIn P S v on (other side) (after .trace) ≡ roomBy s (roomIn P S v on (other side) t)
+  other-room-after = ap (roomIn P S v on (other side)) trace-is ∙ room-other-is p payload buffer t P S v on r (real .queue) side s (real .sides side .room)
+
+  pub flags-same : setsNone s ≡ true → leAt 4 (after .region) flagsAt ≡ leAt 4 r flagsAt
+  flags-same u = flags-left ∙ flags-still side (p .counter) (leAt 4 r flagsAt) s u
+
   -- the other's duty is not changed by a wake
   pub duty-kept : duty (other side) (woken .step) ≡ duty (other side) (q .step)
   duty-kept =
@@ -151,8 +161,8 @@ module _ (P S v : ℕ) (on : Bool) (power-ok : powerOk P ≡ true) (slot-ok : sl
       (rungOf side (after .trace)) (roomIn P S v on side (after .trace)) (stopAt side (leAt 4 (after .region) flagsAt))
       (λ u. (
         ap (rungOf side) trace-is ∙ rung-own p payload buffer t side s u,
-        ap (roomIn P S v on side) trace-is ∙ room-own-is p payload buffer t P S v on r (real .queue) side s (real .sides side .room) ∙ own-room-still s _ u,
-        ap (stopAt side) (flags-left ∙ flags-still side (p .counter) (leAt 4 r flagsAt) s (waits-still s u)) ∙ sym (stop-barred side (leAt 4 r flagsAt)),
+        room-after ∙ own-room-still s _ u,
+        ap (stopAt side) (flags-same (waits-still s u)) ∙ sym (stop-barred side (leAt 4 r flagsAt)),
       ))
       (rw (stop-barred side (leAt 4 r flagsAt)) y))
   ready-own false timely y =
@@ -166,7 +176,7 @@ module _ (P S v : ℕ) (on : Bool) (power-ok : powerOk P ≡ true) (slot-ok : sl
       rw (mover-is, waiter-is, trace-is, e, rung-other p payload buffer t side s, room-other-is p payload buffer t P S v on r (real .queue) side s (real .sides side .room))
       (theirs side _ _ _ _ _ _ s next (leads-here P S v on power-ok slot-ok w real side payload lent fault g) rung (not (ltb 0 (errorOf fault))) (phase (q .step)) (rungOf (other side) t)
       (stopAt (other side) (leAt 4 r flagsAt)) (stopAt (other side) (leAt 4 (after .region) flagsAt))
-      (λ u. ap (stopAt (other side)) (flags-left ∙ flags-still side (p .counter) (leAt 4 r flagsAt) s u))
+      (λ u. ap (stopAt (other side)) (flags-same u))
       (λ u z. no-error (ltb 0 (errorOf fault)) (errorOf fault) refl (lands u (asleep-step (q .step) z)))
       y)
   ready-other false rung lands y =
@@ -192,7 +202,7 @@ module _ (P S v : ℕ) (on : Bool) (power-ok : powerOk P ≡ true) (slot-ok : sl
       (rungOf side (after .trace)) (roomIn P S v on side (after .trace)) more epoch-zero
       (λ u. (
         ap (rungOf side) trace-is ∙ rung-own p payload buffer t side s u,
-        ap (roomIn P S v on side) trace-is ∙ room-own-is p payload buffer t P S v on r (real .queue) side s (real .sides side .room) ∙ own-room-still s _ u,
+        room-after ∙ own-room-still s _ u,
       ))
       y)
 

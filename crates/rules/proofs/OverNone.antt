@@ -88,11 +88,11 @@ untimed-timeout : (side : Side) (p : Party) → Untimed (timeout side p)
 untimed-timeout side p = by-row (timeout side p) (elim [ ])
 
 module _ (r : List ℕ) (P S : ℕ) (on : Bool) (v : ℕ) (fresh : Fresh r P S on v) where
-  abbrev pow : powerOk P ≡ true
-  pow = power-fits r P S on v fresh
+  abbrev power-ok : powerOk P ≡ true
+  power-ok = power-fits r P S on v fresh
 
-  abbrev slo : slotOk S ≡ true
-  slo = slot-fits r P S on v fresh
+  abbrev slot-ok : slotOk S ≡ true
+  slot-ok = slot-fits r P S on v fresh
 
   -- such a look tells the room in the bytes
   none-there : (side : Side) (hs : List Happening) → AllTyped hs → (payload lent : List ℕ) (fault : Fault) (timed : Bool) → Blocked-at side (reached r P S on v hs) payload lent fault timed
@@ -103,7 +103,7 @@ module _ (r : List ℕ) (P S : ℕ) (on : Bool) (v : ℕ) (fresh : Fresh r P S o
       let k = roomIn P S v on side (w .trace) in
       let seen : roomOf (p .own .side) (capacity (p .own .power)) (p .counter) (valueOf (w .region) (p .own) (nextSpec p)) ≡ asRoom k =
       subst (λ (s : Step). Tells (p .own) k (roomIn P S v on (other side) (w .trace)) (doorOf side (leAt 4 (w .region) flagsAt)) (leAt 4 (w .region) (bellAt (sleepBell side))) (p .counter) (valueOf (w .region) (p .own) (nextSpec p)) s) (h .last)
-      (tells-here P S v on pow slo w (real-reached r P S on v fresh hs t) side payload lent fault (h .taken)) in
+      (tells-here P S v on power-ok slot-ok w (real-reached r P S on v fresh hs t) side payload lent fault (h .taken)) in
       room-is r P S on v fresh side hs t ∙ none-seen k (sym seen ∙ h .blocked)
 
   turn-none : (side mover : Side) → mover ≡ side → (hs : List Happening) → AllTyped hs → (payload lent : List ℕ) (fault : Fault)
@@ -131,8 +131,8 @@ module _ (r : List ℕ) (P S : ℕ) (on : Bool) (v : ℕ) (fresh : Fresh r P S o
       let typed = typed-parts hs ms t in
       let real = real-reached r P S on v fresh hs (typed .0) in
       let given : Given (turn Recorder (w .region) p payload lent fault) Closed = rw e at (given-first (turn Recorder (w .region) p payload lent fault)) in
-      let at = closed-turn Recorder w payload lent fault (λ g. ap (λ (o : Own). o .side) (own-is P S v on pow slo w real Recorder payload lent fault g)) given in
+      let at = closed-turn Recorder w payload lent fault (λ g. ap (λ (o : Own). o .side) (own-is P S v on power-ok slot-ok w real Recorder payload lent fault g)) given in
       let all = all-delivered r P S on v fresh hs (typed .0) (none-there Recorder hs (typed .0) payload lent fault false at) in
       let left : partyIn w Sender .closed ≡ true = sym (real .sides Sender .seat .closed-bit) ∙ real .sides Recorder .seat .heard (at .last) in
-      let sealed = sealed-run P S v on (w .trace .delivered) pow slo ms w (typed .1) real (record { closed = left; same = all }) in
+      let sealed = sealed-run P S v on (w .trace .delivered) power-ok slot-ok ms w (typed .1) real (record { closed = left; same = all }) in
       ap (λ (u : World). u .trace .sent) (run-parts hs ms (opened (created r P S on v))) ∙ sealed .same

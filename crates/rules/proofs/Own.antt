@@ -1,29 +1,20 @@
 -- A turn of one's own: what a waiter may rely on after it.
 use mathlib.Core.Path.{_≡_, refl, sym, ap, _∙_}
-use mathlib.Core.Bool.{Bool, true, false}
+use mathlib.Core.Bool.{Bool, true, false, not, _||_}
 use Prim.Native.Nat.{ℕ, _-_}
 use native.Mathlib.Omega.{arith}
 use Rattle.types.specs.declared.Door.{Door}
 use Rattle.types.specs.declared.Step.{Step}
 use Rattle.types.specs.declared.Step.the-variants.{Wait}
 use Rattle.rules.specs.Phase.{Phase, resting, looking, copying, publishing, telling, asking, armed, poised, waits, sleeps, glancing, leaving, phase}
+use Rattle.rules.specs.Stretch.{holdsEpochAt}
+use Rattle.rules.proofs.Views.{awake}
 use Rattle.rules.proofs.Leads.{barred, Leads, idles, finds, blocks, gives-up, copies, spills, tells, stores, owes, passes, raises, wakes, enters, stops, reads, finds-again, stays, enters-again, stops-again, returns, ends, dreams, glances, glances-again, times-out, finds-last, finds-none, closes, closes-alone, close-raises, close-wakes, shuts, shut-raises, shut-wakes, shut-raises-again, shut-wakes-again, sleeps as falls-asleep}
 use Rattle.rules.proofs.Heard.{Duty, none, checking, raising, waking, Due, Good}
 
--- a step of a wait, whose turn changes nothing that the waiter relies on
+-- a step of a wait, which holds an epoch or sleeps: its turn changes nothing that the waiter relies on
 abbrev pub waitsOnAt : Phase → Bool
-waitsOnAt resting = false
-waitsOnAt looking = false
-waitsOnAt copying = false
-waitsOnAt (publishing l t) = false
-waitsOnAt (telling l t) = false
-waitsOnAt asking = false
-waitsOnAt (armed e) = true
-waitsOnAt (poised e) = true
-waitsOnAt (waits e) = true
-waitsOnAt sleeps = true
-waitsOnAt glancing = false
-waitsOnAt leaving = false
+waitsOnAt ph = holdsEpochAt ph || not (awake ph)
 
 abbrev pub waitsOn : Step → Bool
 waitsOn s = waitsOnAt (phase s)

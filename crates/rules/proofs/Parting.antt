@@ -8,7 +8,7 @@ use Rattle.types.specs.declared.Side.{Side}
 use Rattle.types.specs.declared.Door.{Door}
 use Rattle.types.specs.declared.Door.the-variants.{Left}
 use Rattle.types.specs.declared.Step.{Step}
-use Rattle.types.specs.declared.Step.the-variants.{LastLook}
+use Rattle.types.specs.declared.Step.the-variants.{LastLook, CloseSet}
 use Rattle.types.specs.declared.Access.{Access}
 use Rattle.rules.specs.Take.{stanceOf, closedAfter}
 use Rattle.rules.specs.Phase.{phase}
@@ -96,16 +96,16 @@ glances-left k x z m r b s next shut-raises-again e = absurd (let u : _≡_ {A =
 glances-left k x z m r b s next shut-wakes-again e = absurd (let u : _≡_ {A = ℕ} 0 1 = cc in omega arith)
 
 -- one's own close is counted by its own turn alone
-pub closed-by : (side : Side) (n : ℕ) (s : Step) (a : Access) → Does side n s a → (b : Bool) → closedAfter (stanceOf s) b ≡ true → (b ≡ true) ⊎ (parts (phase s) ≡ true)
-closed-by side n s a (nothing l) b e = inl (rw (l .closed b) at e)
-closed-by side n s a (looks l) b e = inl (rw (l .closed b) at e)
-closed-by side n s a (flags l) b e = inl (rw (l .closed b) at e)
-closed-by side n s a epoch b e = inl e
-closed-by side n s a (writes q) b e = inl e
-closed-by side n s a (takes q) b e = inl e
-closed-by side n s a store b e = inl e
-closed-by side n s a (ring l c) b e = inl (rw (l .closed b) at e)
-closed-by side n s a close b e = inr refl
-closed-by side n s a shut b e = inl e
-closed-by side n s a wait b e = inl e
-closed-by side n s a (wake l c m) b e = inl (rw (l .closed b) at e)
+pub closed-by : (side : Side) (n : ℕ) (s : Step) (a : Access) → Does side n s a → (b : Bool) → (closedAfter (stanceOf s) b ≡ b) ⊎ (s ≡ CloseSet)
+closed-by side n s a (nothing l) b = inl (l .closed b)
+closed-by side n s a (looks l) b = inl (l .closed b)
+closed-by side n s a (flags l) b = inl (l .closed b)
+closed-by side n s a epoch b = inl refl
+closed-by side n s a (writes q) b = inl refl
+closed-by side n s a (takes q) b = inl refl
+closed-by side n s a store b = inl refl
+closed-by side n s a (ring l c) b = inl (l .closed b)
+closed-by side n s a close b = inr refl
+closed-by side n s a shut b = inl refl
+closed-by side n s a wait b = inl refl
+closed-by side n s a (wake l c m) b = inl (l .closed b)

@@ -11,6 +11,8 @@ use Rattle.words.specs.Wrap.{plus}
 use Rattle.words.proofs.Wrapped.{plus-zero}
 use Rattle.types.specs.declared.Side.{Side}
 use Rattle.types.specs.declared.Side.the-variants.{Sender, Recorder}
+use Rattle.types.specs.declared.Party.{Party}
+use Rattle.types.specs.declared.Fault.{Fault}
 use Rattle.types.specs.declared.Fault.the-variants.{Fine, Error}
 use Rattle.types.specs.declared.Event.the-variants.{Turn, Failing, Spurious, TimeOut, Push, Pop, Close, Shutdown}
 use Rattle.layout.specs.Limits.{powerOk, slotOk, capacity, ringBytes, totalBytes}
@@ -27,23 +29,33 @@ use Rattle.rules.specs.Run.{Note, World, Happening, attaches, plays, par
 use Rattle.rules.specs.Premises.{Typed, AllTyped}
 use Rattle.rules.specs.Claims.{waiting, Fresh, reached, InOrder}
 use Rattle.rules.proofs.Rooms.{used-is}
+use Rattle.rules.proofs.Taken.{turnWorld}
 use Rattle.rules.proofs.RealTurn.{real-turned}
-use Rattle.rules.proofs.RealCalls.{push-changes, pop-changes, close-changes, shut-changes, spurious-changes, timeout-changes, real-called}
-use Rattle.rules.proofs.RealAttach.{real-attached}
+use Rattle.rules.proofs.RealCalls.{Changed, seated, push-changes, pop-changes, close-changes, shut-changes, spurious-changes, timeout-changes, real-called}
+use Rattle.rules.proofs.RealAttach.{attachWorld, real-attached}
 use Rattle.rules.proofs.Real.{Side-good, Real}
 
 module _ (P S v : ℕ) (on : Bool) (power-ok : powerOk P ≡ true) (slot-ok : slotOk S ≡ true) where
-  pub real-happens : (h : Happening) (w : World) → Typed h → Real P S v on w → Real P S v on (happens h w)
+  -- whatever happens is an attach, a turn, or a call that changes its own party's record or nothing
+  pub happens-by : (F : World → Type 0) (h : Happening) (w : World) → Typed h → (real : Real P S v on w)
+      → ((side : Side) → F (attachWorld P S v on power-ok slot-ok w real side))
+      → ((side : Side) (payload lent : List ℕ) (fault : Fault) → F (turnWorld w side payload lent fault))
+      → ((side : Side) (q : Party) → Changed side (partyIn w side) q → F (seated P S v on w side q))
+      → F (happens h w)
   unfolding happens played playedLeaves settled
-  real-happens (attaches side) w y real = real-attached P S v on power-ok slot-ok w real side
-  real-happens (plays (Turn side) i o) w y real = real-turned P S v on power-ok slot-ok w real side i o Fine
-  real-happens (plays (Failing side e) i o) w y real = real-turned P S v on power-ok slot-ok w real side i o (Error e)
-  real-happens (plays (Spurious side) i o) w y real = real-called P S v on w real side (spuriousSpec side (partyIn w side) .party) (spurious-changes side (partyIn w side))
-  real-happens (plays (TimeOut side) i o) w y real = real-called P S v on w real side (timeoutSpec side (partyIn w side) .party) (timeout-changes side (partyIn w side))
-  real-happens (plays (Push b t l) i o) w y real = real-called P S v on w real Sender (pushSpec (partyIn w Sender) b t l .party) (push-changes (partyIn w Sender) b t l y)
-  real-happens (plays (Pop b l) i o) w y real = real-called P S v on w real Recorder (popSpec (partyIn w Recorder) b l .party) (pop-changes (partyIn w Recorder) b l)
-  real-happens (plays (Close side) i o) w y real = real-called P S v on w real side (closeSpec side (partyIn w side) .party) (close-changes side (partyIn w side))
-  real-happens (plays (Shutdown side) i o) w y real = real-called P S v on w real side (shutSpec side (partyIn w side) .party) (shut-changes side (partyIn w side))
+  happens-by F (attaches side) w y real a t c = a side
+  happens-by F (plays (Turn side) i o) w y real a t c = t side i o Fine
+  happens-by F (plays (Failing side e) i o) w y real a t c = t side i o (Error e)
+  happens-by F (plays (Spurious side) i o) w y real a t c = c side (spuriousSpec side (partyIn w side) .party) (spurious-changes side (partyIn w side))
+  happens-by F (plays (TimeOut side) i o) w y real a t c = c side (timeoutSpec side (partyIn w side) .party) (timeout-changes side (partyIn w side))
+  happens-by F (plays (Push b g l) i o) w y real a t c = c Sender (pushSpec (partyIn w Sender) b g l .party) (push-changes (partyIn w Sender) b g l y)
+  happens-by F (plays (Pop b l) i o) w y real a t c = c Recorder (popSpec (partyIn w Recorder) b l .party) (pop-changes (partyIn w Recorder) b l)
+  happens-by F (plays (Close side) i o) w y real a t c = c side (closeSpec side (partyIn w side) .party) (close-changes side (partyIn w side))
+  happens-by F (plays (Shutdown side) i o) w y real a t c = c side (shutSpec side (partyIn w side) .party) (shut-changes side (partyIn w side))
+
+  pub real-happens : (h : Happening) (w : World) → Typed h → Real P S v on w → Real P S v on (happens h w)
+  real-happens h w y real =
+      happens-by (Real P S v on) h w y real (real-attached P S v on power-ok slot-ok w real) (real-turned P S v on power-ok slot-ok w real) (real-called P S v on w real)
 
   pub real-run : (hs : List Happening) (w : World) → AllTyped hs → Real P S v on w → Real P S v on (run hs w)
   unfolding run

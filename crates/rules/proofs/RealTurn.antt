@@ -240,7 +240,7 @@ module _ (P S v : ℕ) (on : Bool) (power-ok : powerOk P ≡ true) (slot-ok : sl
           since = roused-elim o (λ s. Since (phase s) (leAt 4 left (bellAt (sleepBell (other side)))) (rungOf (other side) told))
               (since-other P S v on r p payload (real .fixed) t buffer side (p .step) a (phase (q .step)) d (theirs .since)) (λ z. tt);
           room = roused-elim o (λ s. HasRoom (phase s) (roomIn P S v on (other side) told))
-              (room-other P S v on power-ok slot-ok r p payload (real .fixed) t buffer (real .queue) side (p .step) a (phase (q .step)) d (theirs .room)) (λ z. tt);
+              (room-other P S v on power-ok slot-ok r p payload (real .fixed) t buffer (real .queue) side (p .step) (phase (q .step)) (mine .room) (theirs .room)) (λ z. tt);
           hand = roused-elim o (λ s. InHand P S v on (other side) (phase s) left told)
               (hand-other P S v on power-ok slot-ok r p payload (real .fixed) t buffer (real .queue) side (p .step) a (phase (q .step)) d (theirs .room) (theirs .hand))
               (λ z. in-hand-none P S v on (other side) looking left told tt);
@@ -272,10 +272,9 @@ module _ (P S v : ℕ) (on : Bool) (power-ok : powerOk P ≡ true) (slot-ok : sl
           trace = traced x p payload (bufferOf r (p .own) x (p .length) lent) t;
         }) access-is
 
-    pub real-turn : Real P S v on (turnWorld w side payload lent fault)
+    pub real-after : Real P S v on after-turn
     unfolding after-turn
-    real-turn =
-        subst (Real P S v on) (sym turn-is-after)
+    real-after =
         record {
           fixed = fixed-kept P S v on r p payload (real .fixed) a;
           queue = queue-after;
@@ -284,6 +283,9 @@ module _ (P S v : ℕ) (on : Bool) (power-ok : powerOk P ≡ true) (slot-ok : sl
               (subst (λ (x : Party). Side-good P S v on (other side) left x told) (sym (seat-other side (w .bench) (moved p (p .step) next-step) woken))
               (other-after woken (roused (other side) q (wokeOf (nextSpec p) (errorOf fault))) (woken-tag q (wokeOf (nextSpec p) (errorOf fault)))));
         }
+
+    real-turn : Real P S v on (turnWorld w side payload lent fault)
+    real-turn = subst (Real P S v on) (sym turn-is-after) real-after
 
   -- any turn, taken or refused
   pub real-turned : (w : World) → Real P S v on w → (side : Side) (payload lent : List ℕ) (fault : Fault) → Real P S v on (turnWorld w side payload lent fault)

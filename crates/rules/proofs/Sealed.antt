@@ -11,28 +11,24 @@ use Rattle.types.specs.declared.Side.{Side}
 use Rattle.types.specs.declared.Side.the-variants.{Sender, Recorder}
 use Rattle.types.specs.declared.Party.{Party}
 use Rattle.types.specs.declared.Fault.{Fault}
-use Rattle.types.specs.declared.Fault.the-variants.{Fine, Error}
 use Rattle.types.specs.declared.Stance.{Stance}
 use Rattle.types.specs.declared.Stance.the-variants.{Resting, Sleeping, Copying, Publishing, Closing, Moving}
-use Rattle.types.specs.declared.Event.the-variants.{Turn, Failing, Spurious, TimeOut, Push, Pop, Close, Shutdown}
 use Rattle.layout.specs.Limits.{powerOk, slotOk}
 use Rattle.layout.specs.Attach.{attachAnswer, attachReply, attachLeaves}
 use Rattle.rules.specs.Take.{stanceOf, closedAfter}
 use Rattle.rules.specs.Next.{nextAt, nextSpec}
 use Rattle.rules.specs.Access.{bufferOf}
 use Rattle.rules.specs.Turn.{errorOf, wokeOf}
-use Rattle.rules.specs.Calls.{pushSpec, popSpec, closeSpec, shutSpec, spuriousSpec, timeoutSpec}
-use Rattle.rules.specs.Bench.{settled, played, playedLeaves}
-use Rattle.rules.specs.Run.{Note, Trace, World, Happening, attaches, plays, partyIn, takes, happens, run}
+use Rattle.rules.specs.Run.{Note, Trace, World, Happening, attaches, partyIn, takes, happens, run}
 use Rattle.rules.specs.Premises.{Typed, AllTyped}
 use Rattle.rules.specs.Phase.{phase}
 use Rattle.rules.proofs.Does.{does}
 use Rattle.rules.proofs.Seats.{roused}
 use Rattle.rules.proofs.Taken.{turnWorld, turn-refused}
 use Rattle.rules.proofs.RealTurn.{turn-is-after}
-use Rattle.rules.proofs.RealCalls.{Changed, seated, push-changes, pop-changes, close-changes, shut-changes, spurious-changes, timeout-changes}
+use Rattle.rules.proofs.RealCalls.{Changed, seated}
 use Rattle.rules.proofs.RealAttach.{attachWorld, bit-clear}
-use Rattle.rules.proofs.RealRun.{real-happens}
+use Rattle.rules.proofs.RealRun.{happens-by, real-happens}
 use Rattle.rules.proofs.Listening.{mover-is, waiter-is, trace-is}
 use Rattle.rules.proofs.Bound.{notes-kept, notes-own, no-store}
 use Rattle.rules.proofs.Real.{parts, Real}
@@ -106,16 +102,8 @@ module _ (P S v : ℕ) (on : Bool) (notes : List Note) where
 
   module _ (power-ok : powerOk P ≡ true) (slot-ok : slotOk S ≡ true) where
     sealed-happens : (h : Happening) (w : World) → Typed h → Real P S v on w → Sealed notes w → Sealed notes (happens h w)
-    unfolding happens played playedLeaves settled
-    sealed-happens (attaches side) w t real y = sealed-attached power-ok slot-ok w real y side
-    sealed-happens (plays (Turn side) i o) w t real y = sealed-turned power-ok slot-ok w real y side i o Fine
-    sealed-happens (plays (Failing side e) i o) w t real y = sealed-turned power-ok slot-ok w real y side i o (Error e)
-    sealed-happens (plays (Spurious side) i o) w t real y = sealed-called w side (spuriousSpec side (partyIn w side) .party) (spurious-changes side (partyIn w side)) y
-    sealed-happens (plays (TimeOut side) i o) w t real y = sealed-called w side (timeoutSpec side (partyIn w side) .party) (timeout-changes side (partyIn w side)) y
-    sealed-happens (plays (Push b g l) i o) w t real y = sealed-called w Sender (pushSpec (partyIn w Sender) b g l .party) (push-changes (partyIn w Sender) b g l t) y
-    sealed-happens (plays (Pop b l) i o) w t real y = sealed-called w Recorder (popSpec (partyIn w Recorder) b l .party) (pop-changes (partyIn w Recorder) b l) y
-    sealed-happens (plays (Close side) i o) w t real y = sealed-called w side (closeSpec side (partyIn w side) .party) (close-changes side (partyIn w side)) y
-    sealed-happens (plays (Shutdown side) i o) w t real y = sealed-called w side (shutSpec side (partyIn w side) .party) (shut-changes side (partyIn w side)) y
+    sealed-happens h w t real y =
+        happens-by P S v on power-ok slot-ok (Sealed notes) h w t real (sealed-attached power-ok slot-ok w real y) (sealed-turned power-ok slot-ok w real y) (λ side q c. sealed-called w side q c y)
 
     pub sealed-run : (hs : List Happening) (w : World) → AllTyped hs → Real P S v on w → Sealed notes w → Sealed notes (run hs w)
     unfolding run

@@ -130,7 +130,7 @@ module _ (P S v : ℕ) (on : Bool) (r : List ℕ) (p : Party) (payload : List �
         attached-bit = attach-bit side side (p .counter) s a (leAt 4 r flagsAt) (fixed .small) d ∙ h .attached-bit;
         in-place = λ e. ((h .in-place e) .0, ap (counterAfter (stanceOf s)) ((h .in-place e) .1) ∙ counts-own P S v on r p payload fixed t buffer side s a d);
         empty = λ e. absurd (let z : _≡_ {A = ℕ} 0 1 = cc in omega arith);
-        over = λ e. parts-on k x (doorOf side (leAt 4 r flagsAt)) m rg b s next leads (⊎-elim (λ q. sym (ap (λ (u : Step). parts (phase u)) at) ∙ h .over q) (λ q. q) (closed-by side (p .counter) s a d (p .closed) e));
+        over = λ e. parts-on k x (doorOf side (leAt 4 r flagsAt)) m rg b s next leads (⊎-elim (λ q. sym (ap (λ (u : Step). parts (phase u)) at) ∙ h .over (sym q ∙ e)) (ap (λ (u : Step). parts (phase u))) (closed-by side (p .counter) s a d (p .closed)));
         heard = λ e. flag-up a (leAt 4 r flagsAt) (fixed .small) (closeMark (other side)) (left-bit side (leAt 4 r flagsAt) (glances-left k x (doorOf side (leAt 4 r flagsAt)) m rg b s next leads e));
       }
 

@@ -24,8 +24,8 @@ use Rattle.rules.specs.Sides.{other, sleepBell}
 use Rattle.rules.specs.Looks.{roomOf, doorOf}
 use Rattle.rules.specs.Steps.{lookMove, leftMove, gateMove}
 use Rattle.rules.specs.Take.{stanceOf, stepAfter, moveAt, moveOf}
-use Rattle.rules.specs.Next.{nextAt, nextSpec}
-use Rattle.rules.specs.Access.{valueOf, bufferOf}
+use Rattle.rules.specs.Next.{nextSpec}
+use Rattle.rules.specs.Access.{valueOf}
 use Rattle.rules.specs.Turn.{turnSpec}
 use Rattle.rules.specs.Bench.{settled, played, playedLeaves}
 use Rattle.rules.specs.Run.{World, Happening, attaches, plays, partyIn, takes, happens, run, opened}
@@ -36,13 +36,11 @@ use Rattle.rules.proofs.Answered.{given-only}
 use Rattle.rules.proofs.Rooms.{asRoom}
 use Rattle.rules.proofs.Leads.{Tells}
 use Rattle.rules.proofs.Taken.{turnWorld, turn-refused}
-use Rattle.rules.proofs.RealTurn.{own-is, next-step, tells-here, after-turn, turn-is-after, real-turned}
+use Rattle.rules.proofs.RealTurn.{own-is, next-step, tells-here, after-turn, turn-is-after, real-after}
 use Rattle.rules.proofs.RealRun.{power-fits, slot-fits, real-reached, waiting-is}
 use Rattle.rules.proofs.Heard.{setsNone}
-use Rattle.rules.proofs.Costs.{ownRoom}
-use Rattle.rules.proofs.Effects.{room-own-is, flags-still}
-use Rattle.rules.proofs.Listening.{mover-is, trace-is, flags-left}
-use Rattle.rules.proofs.Bound.{own-room-none}
+use Rattle.rules.proofs.Listening.{mover-is, flags-same}
+use Rattle.rules.proofs.Bound.{none-after}
 use Rattle.rules.proofs.Asks.{run-parts}
 use Rattle.rules.proofs.Real.{roomIn, Real}
 
@@ -109,13 +107,10 @@ module _ (P S v : ℕ) (on : Bool) (power-ok : powerOk P ≡ true) (slot-ok : sl
     stage-after : n < 2 → Stage (suc n) after
     stage-after h =
         let me = mover-is P S v on power-ok slot-ok w (d .real) Recorder payload lent Fine g in
-        let a = nextAt s Recorder (p .counter) in
         record {
-          real = subst (Real P S v on) (turn-is-after P S v on power-ok slot-ok w (d .real) Recorder payload lent Fine g) (real-turned P S v on power-ok slot-ok w (d .real) Recorder payload lent Fine);
-          none = ap (roomIn P S v on Recorder) (trace-is P S v on power-ok slot-ok w (d .real) Recorder payload lent Fine g)
-              ∙ room-own-is p payload (bufferOf (w .region) (p .own) a (p .length) lent) (w .trace) P S v on (w .region) (d .real .queue) Recorder s (d .real .sides Recorder .room)
-              ∙ ap (ownRoom s) (d .none) ∙ own-room-none s;
-          left = ap (doorOf Recorder) (flags-left P S v on power-ok slot-ok w (d .real) Recorder payload lent Fine g ∙ flags-still Recorder (p .counter) (leAt 4 (w .region) flagsAt) s (ap setsNone (d .at) ∙ stage-sets-none n)) ∙ d .left;
+          real = real-after P S v on power-ok slot-ok w (d .real) Recorder payload lent Fine g;
+          none = none-after P S v on power-ok slot-ok w (d .real) Recorder payload lent Fine g (d .none);
+          left = ap (doorOf Recorder) (flags-same P S v on power-ok slot-ok w (d .real) Recorder payload lent Fine g (ap setsNone (d .at) ∙ stage-sets-none n)) ∙ d .left;
           blocking = ap (λ (q : Party). q .blocking) me ∙ d .blocking;
           at = ap (λ (q : Party). q .step) me ∙ leads-on n (d .at) h;
         }
@@ -152,9 +147,9 @@ module _ (r : List ℕ) (P S : ℕ) (on : Bool) (v : ℕ) (fresh : Fresh r P S o
   unfolding doorOf
   told-closed hs ms t none down closed look blocking turns two payload lent =
       let w = reached r P S on v hs in
-      let pow = power-fits r P S on v fresh in
-      let slo = slot-fits r P S on v fresh in
-      let start : Stage P S v on pow slo 0 w = record { real = real-reached r P S on v fresh hs t; none = sym (waiting-is r P S on v fresh hs t) ∙ none; left = rw (down, closed) refl; blocking = blocking; at = look } in
-      let last = told-run P S v on pow slo ms w turns 0 start (omega arith) in
+      let power-ok = power-fits r P S on v fresh in
+      let slot-ok = slot-fits r P S on v fresh in
+      let start : Stage P S v on power-ok slot-ok 0 w = record { real = real-reached r P S on v fresh hs t; none = sym (waiting-is r P S on v fresh hs t) ∙ none; left = rw (down, closed) refl; blocking = blocking; at = look } in
+      let last = told-run P S v on power-ok slot-ok ms w turns 0 start (omega arith) in
       subst (λ (u : World). takes u Recorder payload lent Fine ≡ true → turnSpec Recorder (u .region) (partyIn u Recorder) payload lent Fine .answer ≡ Closed) (sym (run-parts hs ms (opened (created r P S on v))))
-      (told-last P S v on pow slo (run ms w) last payload lent)
+      (told-last P S v on power-ok slot-ok (run ms w) last payload lent)

@@ -136,13 +136,10 @@ returned b e q = by (eqb b e) q
     by true q = absurd (let u : _≡_ {A = ℕ} 0 1 = cc in omega arith)
     by false q = omega arith
 
-not-ended : (t : Bool) → Rest ≡ pick t Asleep Look → ⊥
-not-ended true q = let u : _≡_ {A = ℕ} 0 1 = cc in omega arith
-not-ended false q = let u : _≡_ {A = ℕ} 0 1 = cc in omega arith
-
-not-timed : (t : Bool) → LastLook true ≡ pick t Asleep Look → ⊥
-not-timed true q = let u : _≡_ {A = ℕ} 0 1 = cc in omega arith
-not-timed false q = let u : _≡_ {A = ℕ} 0 1 = cc in omega arith
+-- it leads nowhere else
+not-naps : (s : Step) → (s ≡ Asleep → ⊥) → (s ≡ Look → ⊥) → (t : Bool) → s ≡ pick t Asleep Look → ⊥
+not-naps s a l true q = a q
+not-naps s a l false q = l q
 
 pub drowse : (x : ℕ) (r : Bool) (b : ℕ) → b < 2 ^ 32 → (s next : Step) → Leads 0 x Open true r b s next → inWait s ≡ true → ((e : ℕ) → s ≡ Wait e → next ≡ pick (eqb b e) Asleep Look)
     → (inWait next ≡ true) × (toSleep b next ≤ less (toSleep b s))
@@ -167,11 +164,11 @@ drowse x r b l s next (enters-again {e = e} h) w f = (refl, two-below b e 1 7)
 drowse x r b l s next (stops-again h) w f = absurd (let u : _≡_ {A = ℕ} 0 1 = cc in omega arith)
 drowse x r b l s next (falls-asleep h) w f = (refl, omega arith)
 drowse x r b l s next (returns {e = e}) w f = (refl, returned b e (f e refl))
-drowse x r b l s next (ends {e = e}) w f = absurd (not-ended (eqb b e) (f e refl))
+drowse x r b l s next (ends {e = e}) w f = absurd (not-naps next (λ q. let u : _≡_ {A = ℕ} 0 1 = cc in omega arith) (λ q. let u : _≡_ {A = ℕ} 0 1 = cc in omega arith) (eqb b e) (f e refl))
 drowse x r b l s next dreams w f = (refl, omega arith)
 drowse x r b l s next (glances h) w f = absurd (let u : _≡_ {A = ℕ} 0 1 = cc in omega arith)
 drowse x r b l s next (glances-again h) w f = absurd (let u : _≡_ {A = ℕ} 0 1 = cc in omega arith)
-drowse x r b l s next (times-out {e = e}) w f = absurd (not-timed (eqb b e) (f e refl))
+drowse x r b l s next (times-out {e = e}) w f = absurd (not-naps next (λ q. let u : _≡_ {A = ℕ} 0 1 = cc in omega arith) (λ q. let u : _≡_ {A = ℕ} 0 1 = cc in omega arith) (eqb b e) (f e refl))
 drowse x r b l s next (finds-last h) w f = absurd (omega arith)
 drowse x r b l s next (finds-none h) w f = absurd (let u : _≡_ {A = ℕ} 0 1 = cc in omega arith)
 drowse x r b l s next (closes h) w f = absurd (let u : _≡_ {A = ℕ} 0 1 = cc in omega arith)

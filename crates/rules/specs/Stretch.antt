@@ -170,7 +170,7 @@ Underway Recorder w =
     (holdsEpoch (partyIn w Recorder .step) ≡ true → rung Recorder w < 2 ^ 32)
     × (beforeCopy (partyIn w Recorder .step) ≡ true → (n : Note) (rest : List Note) → w .trace .sent ≡ w .trace .delivered ++ (n ∷ rest) → length (n .body) ≤ partyIn w Recorder .length)
 
--- a step of a blocking call that finds no room
+-- a step of a blocking call that finds no room, short of its last look
 abbrev pub inWaitAt : Phase → Bool
 inWaitAt resting = false
 inWaitAt looking = true
