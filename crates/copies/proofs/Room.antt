@@ -1,9 +1,9 @@
--- What a party's own sizes have room for: the header and the slots in the region, a payload in a slot.
-use Prim.Native.Nat.{ℕ, _+_, _^_, _≤_, _<_}
+-- What a party's own sizes have room for: the header and the slots in the region, a header in a slot.
+use Prim.Native.Nat.{ℕ, _+_, _≤_}
 use native.Mathlib.Omega.{arith}
 use Rattle.types.specs.declared.Own.{Own}
-use Rattle.layout.specs.Limits.{headerBytes, slotHeadBytes, payloadCapacity, totalBytes}
-use Rattle.layout.proofs.SizeLaws.{slot-least, slot-most, slot-within}
+use Rattle.layout.specs.Limits.{headerBytes, slotHeadBytes, totalBytes}
+use Rattle.layout.proofs.SizeLaws.{slot-least, slot-within}
 use Rattle.rules.specs.Access.{placeOf}
 use Rattle.copies.specs.Sized.{Sized}
 
@@ -17,11 +17,3 @@ module _ {own : Own} {region : ℕ} (s : Sized own region) where
 
   pub head-in : slotHeadBytes ≤ own .slot
   head-in = omega (arith, slot-least (own .slot) (s .slot-in))
-
-  pub payload-in : (n : ℕ) → n ≤ payloadCapacity (own .slot) → slotHeadBytes + n ≤ own .slot
-  unfolding payloadCapacity
-  payload-in n h = omega (arith, head-in)
-
-  -- its length fits the slot header's word
-  pub payload-short : (n : ℕ) → n ≤ payloadCapacity (own .slot) → n < 2 ^ 16
-  payload-short n h = omega (arith, payload-in n h, slot-most (own .slot) (s .slot-in))

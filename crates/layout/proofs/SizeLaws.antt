@@ -1,28 +1,33 @@
--- What the limits say of a power and of a slot size, and where the slots lie. 2 ^ 30 is the room that a capacity has in a
--- word: sums of sizes fit 64 bits for every slot size of 32 bits, also where a limit is raised within that room.
+-- What the limits say of a power and of a slot size, and where the slots lie. Whoever needs that a number fits a word finds
+-- it here: a capacity has the room 2 ^ 30, so that sums of sizes fit 64 bits for every slot size of 32 bits, and a payload's
+-- length the room 2 ^ 16 of its word in the slot header.
 use mathlib.Core.Path.{_≡_, refl}
 use mathlib.Core.Bool.{Bool, true, false, _&&_}
 use mathlib.Core.Logic.{inl, inr}
 use Prim.Native.Nat.{ℕ, _+_, _*_, _%_, _^_, _≤_, _<_}
 use native.Mathlib.Omega.{arith}
 use native.Mathlib.Decide.{decLt}
-use native.Mathlib.Nat.{mod-lt, mul-le-mul-right, suc-mul}
+use native.Mathlib.Nat.{mod-lt, mul-le-mul-left, mul-le-mul-right, suc-mul}
 use borrow.Author.Tests.{leb-true, eqb-true, le-leb}
 use lib.Dec.{leb, eqb}
 use lib.Pow.{pow-mono}
 use Rattle.types.specs.Pick.{pick}
 use Rattle.words.proofs.Sets.{Apart}
 use Rattle.words.proofs.Runs.{and-left, and-right}
-use Rattle.layout.specs.Limits.{leastPower, mostPower, leastSlot, mostSlot, slotStep, headerBytes, powerOk, slotOk, capacity, ringBytes, totalBytes}
+use Rattle.layout.specs.Limits.{leastPower, mostPower, leastSlot, mostSlot, slotStep, headerBytes, slotHeadBytes, powerOk, slotOk, capacity, payloadCapacity, ringBytes, totalBytes}
 use Rattle.layout.specs.Slots.{slotAt}
 
-room-by : (power : ℕ) (b : Bool) → leb power mostPower ≡ b → pick b (2 ^ power) 0 ≤ 2 ^ 30
-room-by power true e = pow-mono {j = 30} (omega (arith, leb-true power mostPower e))
-room-by power false e = omega arith
+most-by : (power : ℕ) (b : Bool) → leb power mostPower ≡ b → pick b (2 ^ power) 0 ≤ 2 ^ mostPower
+most-by power true e = pow-mono (leb-true power mostPower e)
+most-by power false e = omega arith
+
+pub capacity-most : (power : ℕ) → capacity power ≤ capacity mostPower
+unfolding capacity
+capacity-most power = most-by power (leb power mostPower) refl
 
 pub capacity-room : (power : ℕ) → capacity power ≤ 2 ^ 30
 unfolding capacity
-capacity-room power = room-by power (leb power mostPower) refl
+capacity-room power = omega (arith, most-by power (leb power mostPower) refl)
 
 pub ring-room : (power slot : ℕ) → ringBytes power slot ≤ 2 ^ 30 * slot
 unfolding ringBytes
@@ -43,6 +48,18 @@ module _ (slot : ℕ) (ok : slotOk slot ≡ true) where
   pub slot-steps : slot % slotStep ≡ 0
   unfolding slotOk
   slot-steps = eqb-true (slot % slotStep) 0 (and-right (leb leastSlot slot && leb slot mostSlot) (eqb (slot % slotStep) 0) ok)
+
+  pub total-most : (power : ℕ) → totalBytes power slot ≤ totalBytes mostPower mostSlot
+  unfolding totalBytes ringBytes
+  total-most power = omega (arith, mul-le-mul-right slot (capacity-most power), mul-le-mul-left (capacity mostPower) slot-most)
+
+  -- a payload lies in its slot, and its length fits its word
+  pub payload-in : (n : ℕ) → n ≤ payloadCapacity slot → slotHeadBytes + n ≤ slot
+  unfolding payloadCapacity
+  payload-in n h = omega (arith, slot-least)
+
+  pub payload-short : (n : ℕ) → n ≤ payloadCapacity slot → n < 2 ^ 16
+  payload-short n h = omega (arith, payload-in n h, slot-most)
 
 -- a power within the limits
 module _ (power : ℕ) (ok : powerOk power ≡ true) where

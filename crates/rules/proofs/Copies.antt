@@ -14,9 +14,9 @@ use Rattle.types.specs.declared.Own.{Own}
 use Rattle.types.specs.declared.Fit.{Fit}
 use Rattle.types.specs.declared.Fit.the-variants.{Bad, Small, Fits}
 use Rattle.types.specs.declared.Access.the-variants.{WriteSlot, ReadSlot}
-use Rattle.layout.specs.Limits.{slotHeadBytes, powerOk, slotOk, payloadCapacity}
+use Rattle.layout.specs.Limits.{powerOk, slotOk, payloadCapacity}
 use Rattle.layout.specs.Slots.{slotAt, headWord, headOf, bufferPut}
-use Rattle.layout.proofs.SizeLaws.{slot-least, slot-most, slot-within}
+use Rattle.layout.proofs.SizeLaws.{slot-within, payload-in, payload-short}
 use Rattle.layout.proofs.SlotLaws.{put-head, put-payload}
 use Rattle.rules.specs.Looks.{fitOf}
 use Rattle.rules.specs.Steps.{fitMove}
@@ -31,23 +31,14 @@ module _ (P S v : ℕ) (on : Bool) (power-ok : powerOk P ≡ true) (slot-ok : sl
   slot-in : (c : ℕ) → slotAt P S c + S ≤ length r
   slot-in c = omega (arith, slot-within P power-ok S c, fixed .long)
 
-  -- payloads are shorter than 2^16
-  short : (n : ℕ) → n ≤ payloadCapacity S → n < 2 ^ 16
-  unfolding payloadCapacity
-  short n h = omega (arith, slot-most S slot-ok)
-
-  in-slot : (n : ℕ) → n ≤ payloadCapacity S → slotHeadBytes + n ≤ S
-  unfolding payloadCapacity
-  in-slot n h = omega (arith, slot-least S slot-ok)
-
   -- P2
   pub copy-written : (own : Own) (c tag : ℕ) (payload : List ℕ) → own ≡ sizes P S v on Sender → c ≡ plus 64 v (length (t .sent)) → tag < 2 ^ 16 → length payload ≤ payloadCapacity S
       → HoldsAt P S v on (leavesOf r own (WriteSlot c) tag payload) (length (t .sent)) (record { tag = tag; body = payload })
   unfolding leavesOf
   copy-written own c tag payload o e g f =
       rw (o, e) record {
-        head = put-head r (slotAt P S (plus 64 v (length (t .sent)))) S tag payload (slot-in (plus 64 v (length (t .sent)))) (in-slot (length payload) f) (short (length payload) f) g;
-        payload = put-payload r (slotAt P S (plus 64 v (length (t .sent)))) S tag payload (slot-in (plus 64 v (length (t .sent)))) (in-slot (length payload) f);
+        head = put-head r (slotAt P S (plus 64 v (length (t .sent)))) S tag payload (slot-in (plus 64 v (length (t .sent)))) (payload-in S slot-ok (length payload) f) (payload-short S slot-ok (length payload) f) g;
+        payload = put-payload r (slotAt P S (plus 64 v (length (t .sent)))) S tag payload (slot-in (plus 64 v (length (t .sent)))) (payload-in S slot-ok (length payload) f);
         body-fits = f;
       }
 

@@ -1,14 +1,15 @@
 -- Every starred case holds.
 use mathlib.Core.Path.{_≡_, refl, _∙_}
 use mathlib.Core.Bool.{Bool, true, false}
-use Prim.Native.Nat.{ℕ, suc, _-_, _^_, _<_}
+use mathlib.Core.List.{List, [], _∷_}
+use Prim.Native.Nat.{ℕ, suc, _-_, _^_, _≤_, _<_}
 use native.Mathlib.Omega.{arith}
 use borrow.Author.Tests.{lt-ltb, eq-eqb}
 use lib.Dec.{ltb, lit<}
 use lib.IntN.{pos, negsuc}
 use mir.Syntax.{w32}
 use mir.Val.{toZ, sel}
-use Rattle.words.specs.Wrap.{plus, minus}
+use Rattle.words.specs.Wrap.{plus, minus, next}
 use Rattle.words.proofs.Wrapped.{minus-plus}
 use Rattle.types.specs.Answers.{firstOf}
 use Rattle.types.specs.declared.Side.{Side}
@@ -16,43 +17,65 @@ use Rattle.types.specs.declared.Room.{Room}
 use Rattle.types.specs.declared.Room.the-variants.{Corrupt, Blocked, Free}
 use Rattle.types.specs.declared.Answer.{Answer}
 use Rattle.types.specs.declared.Answer.the-variants.{Done, InvalidLayout, InvalidCapacity, InvalidSlotSize}
-use Rattle.layout.specs.Limits.{powerOk, slotOk, capacity, payloadCapacity, ringBytes, totalBytes}
+use Rattle.layout.specs.Limits.{mostPower, mostSlot, powerOk, slotOk, capacity, payloadCapacity, ringBytes, totalBytes}
 use Rattle.layout.specs.Slots.{slotAt}
 use Rattle.layout.specs.Create.{createAnswer}
 use Rattle.layout.specs.Attach.{flagChecks}
-use Rattle.layout.proofs.SizeLaws.{capacity-room}
-use Rattle.layout.proofs.Accepted.{sizeChecks, attach-headed, accepted}
+use Rattle.layout.proofs.SizeLaws.{capacity-most, slot-most, total-most}
+use Rattle.layout.proofs.Accepted.{sizeChecks, attach-headed, accepted as accepted-by}
 use Rattle.rules.specs.Looks.{roomWith, roomOf}
-use Rattle.starred.specs.Cases.{Accepted, Refused, Flagged, Used, CorruptAt, Raised, AllHold, starred}
+use Rattle.starred.specs.Cases.{Case, accepted, largest, refused, flagged, used, corrupt, place, bell, Largest, CorruptAt, Raised, Holds, AllHold, starred}
 
--- what create makes of accepted sizes, attach accepts
-good : (power slot total payload : ℕ) → totalBytes power slot ≡ total → payloadCapacity slot ≡ payload → createAnswer total power slot ≡ Done 0 0 → Accepted power slot total payload
-good power slot total payload t p c =
-    (t, p, c, λ r notfull start side long small. accepted r power slot notfull start (rw long c) small side)
-
--- sizes decide before the rest
-bad : (power slot : ℕ) (a : Answer) → ((bytes : ℕ) → createAnswer bytes power slot ≡ a) → ((ring flags : ℕ) (side : Side) → firstOf (sizeChecks ring power slot flags side) ≡ a) → Refused power slot a
-bad power slot a c s = (c, λ r ring flags start side f. attach-headed r ring power slot flags start f side ∙ s ring flags side)
-
--- flags decide last
-bad-flags : (flags : ℕ) (a : Answer) → ((side : Side) → firstOf (flagChecks flags side) ≡ a) → Flagged flags a
-bad-flags flags a c r power slot start side p s f =
-    attach-headed r (ringBytes power slot) power slot flags start f side
-    ∙ rw (s, p, eq-eqb (ringBytes power slot) (ringBytes power slot) refl) (c side)
-
--- the start of the counters does not matter
-found : (capacity n : ℕ) (sender recorder : Room) → n < 2 ^ 64 → roomWith n capacity capacity ≡ sender → roomWith n capacity 0 ≡ recorder → Used capacity n sender recorder
-unfolding roomOf
-found capacity n sender recorder h s r tail t = rw (minus-plus 64 tail n (omega arith) h) (s, r)
+-- What is left to compute of each row; the laws do the rest, so the table's sizes stand in the table alone.
+abbrev Shown : Case → Type 0
+Shown (accepted power slot total payload) = (totalBytes power slot ≡ total) × (payloadCapacity slot ≡ payload) × (createAnswer total power slot ≡ Done 0 0)
+Shown (largest total payload) = (totalBytes mostPower mostSlot ≡ total) × (payloadCapacity mostSlot ≡ payload)
+Shown (refused power slot answer) =
+    ((bytes : ℕ) → createAnswer bytes power slot ≡ answer) × ((ring flags : ℕ) (side : Side) → firstOf (sizeChecks ring power slot flags side) ≡ answer)
+Shown (flagged flags answer) = (side : Side) → firstOf (flagChecks flags side) ≡ answer
+Shown (used capacity n sender recorder) = (n < 2 ^ 64) × (roomWith n capacity capacity ≡ sender) × (roomWith n capacity 0 ≡ recorder)
+Shown (corrupt head tail) = capacity mostPower < minus 64 head tail
+Shown (place power slot count at after) = (slotAt power slot count ≡ at) × (next 64 count ≡ after)
+Shown (bell reading raised) = Raised reading raised
 
 too-many : (n capacity limit : ℕ) → capacity < n → roomWith n capacity limit ≡ Corrupt
 too-many n capacity limit h = rw (lt-ltb capacity n h)
 
-far : (head tail : ℕ) → 2 ^ 30 < minus 64 head tail → CorruptAt head tail
+far : (head tail : ℕ) → capacity mostPower < minus 64 head tail → CorruptAt head tail
 unfolding roomOf
 far head tail h power =
-    let l : capacity power < minus 64 head tail = omega (arith, capacity-room power) in
+    let l : capacity power < minus 64 head tail = omega (arith, capacity-most power) in
     (too-many (minus 64 head tail) (capacity power) (capacity power) l, too-many (minus 64 head tail) (capacity power) 0 l)
+
+most : (total payload : ℕ) → totalBytes mostPower mostSlot ≡ total → payloadCapacity mostSlot ≡ payload → Largest total payload
+unfolding payloadCapacity
+most total payload t p power slot power-ok slot-ok = (rw t at (total-most slot slot-ok power), omega (arith, slot-most slot slot-ok))
+
+-- What create makes of accepted sizes, attach accepts; refused sizes decide before the rest, and flags last; the start of
+-- the counters does not matter.
+shown : (c : Case) → Shown c → Holds c
+unfolding roomOf
+shown (accepted power slot total payload) (t, p, c) =
+    (t, p, c, λ r notfull start side long small. accepted-by r power slot notfull start (rw long c) small side)
+shown (largest total payload) (t, p) = most total payload t p
+shown (refused power slot answer) (c, s) = (c, λ r ring flags start side f. attach-headed r ring power slot flags start f side ∙ s ring flags side)
+shown (flagged flags answer) c = λ r power slot start side p s f.
+    attach-headed r (ringBytes power slot) power slot flags start f side
+    ∙ rw (s, p, eq-eqb (ringBytes power slot) (ringBytes power slot) refl) (c side)
+shown (used capacity n sender recorder) (h, s, r) = λ tail t. rw (minus-plus 64 tail n (omega arith) h) (s, r)
+shown (corrupt head tail) h = far head tail h
+shown (place power slot count at after) e = e
+shown (bell reading raised) e = e
+
+-- every row of a table
+data AllShown : List Case → Type 0 where
+  end : AllShown []
+  _⁏_ : {c : Case} {cs : List Case} → Shown c → AllShown cs → AllShown (c ∷ cs)
+
+infixr 20 _⁏_
+all-shown : {cs : List Case} → AllShown cs → AllHold cs
+all-shown end = tt
+all-shown (_⁏_ {c} s rest) = (shown c s, all-shown rest)
 
 -- a signed reading has one word
 reading-one : (n : ℕ) → n < 2 ^ 32 → toZ w32 n ≡ negsuc 0 → n ≡ 2 ^ 32 - 1
@@ -73,55 +96,28 @@ minus-one : Raised (negsuc 0) (pos 0)
 unfolding plus
 minus-one n h e = rw (reading-one n h e)
 
-largest : Raised (pos 2147483647) (negsuc 2147483647)
+top : Raised (pos 2147483647) (negsuc 2147483647)
 unfolding plus
-largest n h e = rw (reading-most n e)
+top n h e = rw (reading-most n e)
 
 pub holds : AllHold starred
 unfolding createAnswer slotOk powerOk capacity payloadCapacity ringBytes totalBytes slotAt flagChecks plus minus
-holds = (
-  good 1 8 400 0 refl refl refl,
-  (
-    good 10 4096 4194688 4088 refl refl refl,
-    (
-      bad 0 8 InvalidCapacity (λ b. refl) (λ r f s. refl),
-      (
-        bad 11 8 InvalidCapacity (λ b. refl) (λ r f s. refl),
-        (
-          bad 1 0 InvalidSlotSize (λ b. refl) (λ r f s. refl),
-          (
-            bad 1 12 InvalidSlotSize (λ b. refl) (λ r f s. refl),
-            (
-              bad 1 4104 InvalidSlotSize (λ b. refl) (λ r f s. refl),
-              (
-                bad 0 12 InvalidSlotSize (λ b. refl) (λ r f s. refl),
-                (
-                  found 4 4 Blocked Free (lit< tt) refl refl,
-                  (
-                    found 4 5 Corrupt Corrupt (lit< tt) refl refl,
-                    (
-                      far 1 3 (lit< tt),
-                      (
-                        (refl, refl),
-                        (
-                          minus-one,
-                          (
-                            largest,
-                            (
-                              bad-flags 0x80 InvalidLayout (λ s. refl),
-                              tt,
-                            ),
-                          ),
-                        ),
-                      ),
-                    ),
-                  ),
-                ),
-              ),
-            ),
-          ),
-        ),
-      ),
-    ),
-  ),
-)
+holds =
+    all-shown {cs = starred}
+    ((refl, refl, refl)
+    ⁏ (refl, refl, refl)
+    ⁏ (refl, refl)
+    ⁏ ((λ b. refl), (λ r f s. refl))
+    ⁏ ((λ b. refl), (λ r f s. refl))
+    ⁏ ((λ b. refl), (λ r f s. refl))
+    ⁏ ((λ b. refl), (λ r f s. refl))
+    ⁏ ((λ b. refl), (λ r f s. refl))
+    ⁏ ((λ b. refl), (λ r f s. refl))
+    ⁏ (lit< tt, refl, refl)
+    ⁏ (lit< tt, refl, refl)
+    ⁏ lit< tt
+    ⁏ (refl, refl)
+    ⁏ minus-one
+    ⁏ top
+    ⁏ (λ s. refl)
+    ⁏ end)

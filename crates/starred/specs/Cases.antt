@@ -2,7 +2,7 @@
 use mathlib.Core.Path.{_≡_}
 use mathlib.Core.Bool.{Bool, true}
 use mathlib.Core.List.{List, [], _∷_}
-use Prim.Native.Nat.{ℕ, _-_, _^_, _<_}
+use Prim.Native.Nat.{ℕ, _-_, _^_, _≤_, _<_}
 use lib.IntN.{ℤ, pos, negsuc}
 use lib.ListN.{length}
 use mir.Syntax.{w32}
@@ -25,6 +25,8 @@ use Rattle.rules.specs.Looks.{roomOf}
 pub data Case : Type 0 where
   -- sizes that are accepted, with the total and the payload capacity
   accepted : (power slot total payload : ℕ) → Case
+  -- the largest total and the largest payload capacity of all sizes that are accepted
+  largest : (total payload : ℕ) → Case
   -- sizes that are refused
   refused : (power slot : ℕ) → Answer → Case
   -- flags that attach refuses
@@ -42,6 +44,7 @@ abbrev pub starred : List Case
 starred =
     accepted 1 8 400 0
     ∷ accepted 10 4096 4194688 4088
+    ∷ largest 4194688 4088
     ∷ refused 0 8 InvalidCapacity
     ∷ refused 11 8 InvalidCapacity
     ∷ refused 1 0 InvalidSlotSize
@@ -65,6 +68,10 @@ Accepted power slot total payload =
     × (createAnswer total power slot ≡ Done 0 0)
     × ((r : List ℕ) (notfull : Bool) (start : ℕ) (side : Side) → length r ≡ total → start < 256 ^ 8
     → attachAnswer (created r power slot notfull start) side ≡ Done 0 0)
+
+abbrev pub Largest : (total payload : ℕ) → Type 0
+Largest total payload =
+    (power slot : ℕ) → powerOk power ≡ true → slotOk slot ≡ true → (totalBytes power slot ≤ total) × (payloadCapacity slot ≤ payload)
 
 -- create refuses any region, and attach any whole header with those sizes, whatever its ring bytes and flags are
 abbrev pub Refused : (power slot : ℕ) → Answer → Type 0
@@ -95,6 +102,7 @@ Raised reading raised = (n : ℕ) → n < 2 ^ 32 → toZ w32 n ≡ reading → t
 
 abbrev pub Holds : Case → Type 0
 Holds (accepted power slot total payload) = Accepted power slot total payload
+Holds (largest total payload) = Largest total payload
 Holds (refused power slot answer) = Refused power slot answer
 Holds (flagged flags answer) = Flagged flags answer
 Holds (used capacity n sender recorder) = Used capacity n sender recorder

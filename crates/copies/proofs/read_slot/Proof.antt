@@ -3,9 +3,10 @@ use mathlib.Core.Path.{_≡_, sym, ap, _∙_}
 use Prim.Native.Nat.{ℕ}
 use native.Mathlib.Omega.{arith}
 use Rattle.layout.specs.Limits.{payloadCapacity}
+use Rattle.layout.proofs.SizeLaws.{payload-in}
 use Rattle.rules.specs.Looks.{fitOf}
 use Rattle.rules.proofs.FitLaws.{fit-good}
-use Rattle.copies.proofs.Room.{place-in, head-in, payload-in}
+use Rattle.copies.proofs.Room.{place-in, head-in}
 use Rattle.copies.proofs.read_slot.Statement.{statement}
 use Rattle.copies.proofs.read_slot.Tie as tie
 
@@ -24,7 +25,7 @@ deliver-requires c κs =
           let f : c .before .before .fit-of .result ≡ fitOf h (payloadCapacity (a .own .slot)) (a .named) =
           c .before .before .fit-of .ensures ∙ ap (λ (m : ℕ). fitOf h m (a .named)) (c .before .before .before .payload-capacity .ensures) in
           let w = fit-good h (payloadCapacity (a .own .slot)) (a .named) (sym f ∙ e) in
-          (payload-in (s .pre .0) (h .length) (w .0), omega (arith, s .pre .1)),
+          (payload-in (a .own .slot) (s .pre .0 .slot-in) (h .length) (w .0), omega (arith, s .pre .1)),
     )
 
 returns : tie.Need-returns
