@@ -4,19 +4,23 @@ use crate::answer::Answer;
 use crate::header::Header;
 use crate::party::{Party, Side, Step};
 
-/// The house limit on the capacity power: 1 to 10.
+/// The largest capacity power of the house limits, which go from 1.
+pub const MOST_POWER: u8 = 30;
+
+/// The largest slot size of the house limits, which go from 8 in steps of 8.
+pub const MOST_SLOT_SIZE: u32 = 65_536;
+
 #[inline]
 pub fn power_is_allowed(power: u8) -> bool {
-    (1..=10).contains(&power)
+    (1..=MOST_POWER).contains(&power)
 }
 
-/// The house limit on the slot size: 8 to 4,096 in steps of 8.
 #[inline]
 pub fn slot_size_is_allowed(slot_size: u32) -> bool {
-    (8..=4096).contains(&slot_size) && slot_size.is_multiple_of(8)
+    (8..=MOST_SLOT_SIZE).contains(&slot_size) && slot_size.is_multiple_of(8)
 }
 
-/// The region's length for sizes within the limits.
+/// The region's length for sizes within the limits: less than 2^47, so a usize of 64 bits holds it.
 #[inline]
 pub fn total_size(power: u8, slot_size: u32) -> usize {
     Header::SIZE + ((slot_size as usize) << power)
@@ -25,7 +29,6 @@ pub fn total_size(power: u8, slot_size: u32) -> usize {
 /// Where the slot for a counter begins in the region, for sizes within the limits.
 #[inline]
 pub fn slot_begin(count: u64, power: u8, slot_size: u32) -> usize {
-    // The remainder is below 1,024, so it fits any usize.
     let index = (count % (1 << power)) as usize;
     Header::SIZE + index * slot_size as usize
 }

@@ -63,7 +63,7 @@ impl Party {
             Step::P2 => {
                 let begin = region::slot_begin(self.count, self.power, self.slot_size);
                 let slot = &mut region[begin..begin + self.slot_size as usize];
-                // The length is at most 4,088 here, so it fits its field.
+                // The length is at most 65,528 here, so it fits its field.
                 slot[0..2].copy_from_slice(&(self.length as u16).to_le_bytes());
                 slot[2..4].copy_from_slice(&self.tag.to_le_bytes());
                 slot[4..8].fill(0);

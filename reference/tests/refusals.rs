@@ -50,11 +50,11 @@ fn spoilt_records() {
             |party| party.attached = false,
             |party| party.side = party.side.other(),
             |party| party.power = 0,
-            |party| party.power = 11,
+            |party| party.power = 31,
             |party| party.power = 255,
             |party| party.slot_size = 0,
             |party| party.slot_size = 12,
-            |party| party.slot_size = 4104,
+            |party| party.slot_size = 65_544,
         ];
         for spoil in spoil {
             // Before 253, for parties at rest and asleep, and before 11.

@@ -10,20 +10,36 @@ use reference::{attach, create, Answer, Bell, Header, Party, Side};
 fn starred_sizes() {
     assert_eq!(total_size(1, 8), 400);
     assert_eq!(House::new(1, 8, true, 0).bench.sender.payload_capacity(), 0);
-    assert_eq!(total_size(10, 4096), 4_194_688);
-    House::new(10, 4096, true, 0);
+    assert_eq!(total_size(30, 65_536), 70_368_744_178_048);
     let mut region = vec![7; 400];
     for (power, slot, answer) in [
         (0, 8, Answer::InvalidCapacity),
-        (11, 8, Answer::InvalidCapacity),
+        (31, 8, Answer::InvalidCapacity),
         (1, 0, Answer::InvalidSlotSize),
         (1, 12, Answer::InvalidSlotSize),
-        (1, 4104, Answer::InvalidSlotSize),
+        (1, 65_544, Answer::InvalidSlotSize),
         (0, 12, Answer::InvalidSlotSize),
         (2, 8, Answer::InvalidLayout),
+        (30, 65_536, Answer::InvalidLayout),
     ] {
         assert_eq!(create(&mut region, power, slot, true, 0), answer);
         assert!(region.iter().all(|&byte| byte == 7), "refused, yet written");
+    }
+}
+
+/// A note that fills the largest slot, and one that is a byte too long for it.
+#[test]
+fn the_largest_note() {
+    let mut house = House::new(1, 65_536, true, 0);
+    let note: Vec<u8> = (0..65_529u32).map(|byte| (byte % 251) as u8).collect();
+    let begun = house.bench.sender.begin_push(false, 1, note.len());
+    assert_eq!(begun, Answer::PayloadTooLong);
+    for tag in [2, 3, 4] {
+        assert_eq!(house.push(tag, &note[..65_528]), Answer::Done);
+        assert_eq!(house.pop(65_527), Answer::OutputTooSmall { length: 65_528 });
+        let length = 65_528;
+        assert_eq!(house.pop(65_528), Answer::Delivered { tag, length });
+        assert!(house.buffer == note[..65_528]);
     }
 }
 

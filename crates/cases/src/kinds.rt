@@ -112,11 +112,9 @@ fn replied(region: &mut [u8], both: Bench, c: Case) -> Played {
     seats::settled(both, side, reply)
 }
 
-// The sender is lent of the payload, the recorder of the buffer.
 fn happened(region: &mut [u8], payload: &[u8], buffer: &mut [u8], both: Bench, c: Case) -> Played {
     let p = within(c.lent, payload);
-    let b = within(c.lent, buffer);
-    bench::play(region, both, event_of(c), &payload[..p], &mut buffer[..b])
+    bench::play(region, both, event_of(c), &payload[..p], buffer)
 }
 
 pub(crate) fn play_case(

@@ -22,7 +22,10 @@ const CASE: usize = 24;
 // sums of region and buffer.
 const REPORT: usize = 32;
 
-const ROOM: u32 = 4096;
+// Room for the largest slot twice, and for a ring of as many bytes with the smallest slots; for the largest payload.
+const REGION: usize = 131456;
+
+const ROOM: u32 = 65536;
 
 // A case record, and how many of its bytes were read. What kind, part, tag, number and value mean goes by the kind; the
 // others are how much of region, payload and buffer is lent.
@@ -92,14 +95,30 @@ fn tell_all(kind: u8, answer: Answer, both: Bench, bytes: u64) -> bool {
     )
 }
 
+// What came of a record, with the sums of the region and of the buffer that it was lent.
+struct Came {
+    played: Played,
+    bytes: u64,
+}
+
+// Every record has a buffer of its own, zeros before it.
+fn played(region: &mut [u8], payload: &[u8], both: Bench, c: Case) -> Came {
+    let mut buffer = io::large_buffer();
+    let b = reports::within(c.lent, &buffer);
+    let played = kinds::play_case(region, payload, &mut buffer[..b], both, c);
+    let bytes = sums::bytes_word(region, &buffer[..b]);
+    Came { played, bytes }
+}
+
 // False where no record is left to report, or the report cannot be written.
-fn report(c: Case, s: Played, bytes: u64) -> bool {
+fn report(c: Case, came: Came) -> bool {
     if c.got < CASE {
         finish(c.got);
         return false;
     }
+    let s = came.played;
     let answer = s.answer;
-    tell_all(c.kind, answer, s.bench, bytes)
+    tell_all(c.kind, answer, s.bench, came.bytes)
 }
 
 // A region of no bytes is refused, and gives the record of a party not attached.
@@ -120,17 +139,17 @@ fn opened() -> Played {
 }
 
 fn main() {
-    let mut region = io::large_buffer();
-    let mut payload = io::buffer();
+    let mut region = [0u8; REGION];
+    let mut payload = io::large_buffer();
     let mut s = opened();
     let mut reads: u64 = 0;
     kinds::put(&mut payload, 0, ROOM, 0x4847_4645_4443_4241);
     while reads < READS {
         let c = read_case();
-        let mut buffer = io::buffer();
         let r = reports::within(c.region, &region);
-        s = kinds::play_case(&mut region[..r], &payload, &mut buffer, s.bench, c);
-        if !report(c, s, sums::bytes_word(&region[..r], &buffer)) {
+        let came = played(&mut region[..r], &payload, s.bench, c);
+        s = came.played;
+        if !report(c, came) {
             return;
         }
         reads += 1;

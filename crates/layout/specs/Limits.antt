@@ -8,13 +8,13 @@ abbrev pub leastPower : ℕ
 leastPower = 1
 
 abbrev pub mostPower : ℕ
-mostPower = 10
+mostPower = 30
 
 abbrev pub leastSlot : ℕ
 leastSlot = 8
 
 abbrev pub mostSlot : ℕ
-mostSlot = 4096
+mostSlot = 65536
 
 -- slot sizes go in steps of 8
 abbrev pub slotStep : ℕ

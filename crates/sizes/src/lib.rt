@@ -10,11 +10,11 @@ pub struct Limits {}
 impl Limits {
     pub const LEAST_POWER: u8 = 1;
 
-    pub const MOST_POWER: u8 = 10;
+    pub const MOST_POWER: u8 = 30;
 
     pub const LEAST_SLOT: u32 = 8;
 
-    pub const MOST_SLOT: u32 = 4096;
+    pub const MOST_SLOT: u32 = 65536;
 
     pub const SLOT_STEP: u32 = 8;
 

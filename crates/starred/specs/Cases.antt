@@ -43,13 +43,13 @@ pub data Case : Type 0 where
 abbrev pub starred : List Case
 starred =
     accepted 1 8 400 0
-    ∷ accepted 10 4096 4194688 4088
-    ∷ largest 4194688 4088
+    ∷ accepted 30 65536 70368744178048 65528
+    ∷ largest 70368744178048 65528
     ∷ refused 0 8 InvalidCapacity
-    ∷ refused 11 8 InvalidCapacity
+    ∷ refused 31 8 InvalidCapacity
     ∷ refused 1 0 InvalidSlotSize
     ∷ refused 1 12 InvalidSlotSize
-    ∷ refused 1 4104 InvalidSlotSize
+    ∷ refused 1 65544 InvalidSlotSize
     ∷ refused 0 12 InvalidSlotSize
     ∷ used 4 4 Blocked Free
     ∷ used 4 5 Corrupt Corrupt

@@ -1,7 +1,6 @@
 //! A case: a name that says which place of document 01 it plays, and its records.
 
 use crate::cases::record::{Ask, Part, Record};
-use crate::cases::stage::Stage;
 use crate::header::Header;
 use crate::party::Side;
 use crate::region;
@@ -30,7 +29,14 @@ impl Ring {
         ..Ring::SMALL
     };
 
-    /// The region's length; the sizes are within the limits.
+    /// Sizes within the limits whose total is the header alone, if it is cut to 32 bits.
+    pub const CUT: [(u8, u32); 3] = [
+        (29, 8),
+        (16, region::MOST_SLOT_SIZE),
+        (region::MOST_POWER, region::MOST_SLOT_SIZE),
+    ];
+
+    /// The region's length; the sizes are within the limits, and their slots are few.
     pub fn total(self) -> u32 {
         region::total_size(self.power, self.slot_size) as u32
     }
@@ -65,13 +71,8 @@ pub struct Case {
 }
 
 impl Case {
-    /// The pattern lets a byte that is written, or left alone, show. It stops a byte short of
-    /// the region's room, where no ring reaches.
-    const PATTERN: Ask = Ask::Put {
-        at: 0,
-        count: u16::MAX,
-        value: 0xBAB7_B4B1_AEAB_A8A5,
-    };
+    /// So many bytes of the region have the pattern where a case begins: what one record puts.
+    pub const PATTERNED: u32 = u16::MAX as u32;
 
     /// Two strangers, since an attach to no bytes is refused, and a region of no ring.
     pub fn new(name: impl Into<String>) -> Self {
@@ -83,9 +84,20 @@ impl Case {
             buffer: 0,
         };
         case.asks(SIDES.map(Ask::Attach))
-            .lend(Part::Region, Stage::REGION as u32)
-            .ask(Case::PATTERN)
+            .lend(Part::Region, Case::PATTERNED)
+            .pattern(0)
             .lend(Part::Region, 0)
+    }
+
+    /// A pattern that lets a byte show that is written, or left alone: from a place on, over all
+    /// that is lent. No put is lent bytes behind it, which are another case's still.
+    pub fn pattern(self, from: u32) -> Self {
+        let whole = self.region;
+        let places = (from..whole).step_by(Case::PATTERNED as usize);
+        places.fold(self, |case, at| {
+            case.lend(Part::Region, whole.min(at + Case::PATTERNED))
+                .put(at as usize, u16::MAX, 0xBAB7_B4B1_AEAB_A8A5)
+        })
     }
 
     /// A fresh region with both parties attached.

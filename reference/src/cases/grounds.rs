@@ -2,7 +2,9 @@
 
 use crate::cases::case::{Case, Ring, SIDES};
 use crate::cases::record::{Ask, Part, Terms};
+use crate::header::Header;
 use crate::party::Side;
+use crate::region::{MOST_POWER, MOST_SLOT_SIZE};
 use Side::{Recorder, Sender};
 
 pub fn list() -> Vec<Case> {
@@ -12,6 +14,7 @@ pub fn list() -> Vec<Case> {
             cases.push(spoiled(side, stance));
             cases.push(other_lengths(side, stance));
         }
+        cases.push(cut_totals(side));
         cases.push(while_it_runs(side));
         cases.push(at_last_look(side));
         cases.push(copies(side));
@@ -116,8 +119,8 @@ fn bad(good: Terms) -> Vec<Terms> {
             ..good
         },
     ];
-    bad.extend([0, 11, 255].map(|power| Terms { power, ..good }));
-    bad.extend([0, 12, 4104, u32::MAX].map(|slot_size| Terms { slot_size, ..good }));
+    bad.extend([0, MOST_POWER + 1, 255].map(|power| Terms { power, ..good }));
+    bad.extend([0, 12, MOST_SLOT_SIZE + 8, u32::MAX].map(|slot_size| Terms { slot_size, ..good }));
     // A pop may name any length, and then what is asked is done.
     if good.side == Sender {
         bad.extend([9, u32::MAX].map(|length| Terms { length, ..good }));
@@ -150,7 +153,7 @@ fn other_lengths(side: Side, stance: Stance) -> Case {
         stance.name()
     );
     let mut case = stance.reach(Case::on(name, Ring::SMALL), side);
-    for length in [0, 383, 384, total - 1, total + 1, 65_536] {
+    for length in [0, 383, 384, total - 1, total + 1, Case::PATTERNED] {
         case = case
             .lend(Part::Region, length)
             .ask(Ask::Turn(side))
@@ -159,6 +162,31 @@ fn other_lengths(side: Side, stance: Stance) -> Case {
     case.lend(Part::Region, total)
         .turns(side, 1)
         .ask(Ask::Spurious(side))
+}
+
+/// A region of the header alone is not what a record with such sizes speaks of.
+fn cut_totals(side: Side) -> Case {
+    let name = format!(
+        "Answer 20: sizes of the {} whose total is 384 in 32 bits",
+        side.name()
+    );
+    let good = good(side, Stance::Call);
+    let mut case = Stance::Call.reach(Case::on(name, Ring::SMALL), side);
+    for (power, slot_size) in Ring::CUT {
+        let cut = Terms {
+            power,
+            slot_size,
+            length: 0,
+            ..good
+        };
+        case = case
+            .ask(Ask::Spoil(side, cut))
+            .lend(Part::Region, Header::SIZE as u32)
+            .turns(side, 1);
+    }
+    case.ask(Ask::Spoil(side, good))
+        .lend(Part::Region, Ring::SMALL.total())
+        .turns(side, 1)
 }
 
 /// At every step of a call that sleeps and then copies: what is begun meanwhile, an announced
@@ -230,7 +258,7 @@ fn copies(side: Side) -> Case {
         Recorder => case.sent(1),
     };
     case = case.blocking_call(side);
-    let wrong = [0, named - 1, named + 1, 4096];
+    let wrong = [0, named - 1, named + 1, 65_536];
     // At the look it does not matter.
     case = case.lend(part, 0).turns(side, 1);
     for length in wrong {

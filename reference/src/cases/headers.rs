@@ -4,6 +4,7 @@ use crate::cases::case::{Case, Ring, SIDES};
 use crate::cases::record::{Ask, Part};
 use crate::header::Header;
 use crate::party::Side;
+use crate::region::{MOST_POWER, MOST_SLOT_SIZE};
 use Side::{Recorder, Sender};
 
 pub fn list() -> Vec<Case> {
@@ -12,6 +13,7 @@ pub fn list() -> Vec<Case> {
     cases.push(attached_twice());
     cases.push(order());
     cases.push(whole_words());
+    cases.push(cut_products());
     cases.push(flags());
     cases.push(every_byte(Sender, Ring::SMALL));
     cases.push(every_byte(Recorder, WIDE_OFF));
@@ -27,7 +29,7 @@ const WIDE_OFF: Ring = Ring {
 
 /// 6, then 5, then 4, with sizes at the limits and at the type's ends.
 fn sizes() -> Case {
-    const POWERS: [u8; 9] = [0, 1, 2, 10, 11, 63, 64, 128, 255];
+    const POWERS: [u8; 9] = [0, 1, 2, MOST_POWER, MOST_POWER + 1, 63, 64, 128, 255];
     const SLOTS: [u32; 12] = [
         0,
         1,
@@ -35,10 +37,10 @@ fn sizes() -> Case {
         8,
         12,
         16,
-        4095,
-        4096,
-        4097,
-        4104,
+        MOST_SLOT_SIZE - 1,
+        MOST_SLOT_SIZE,
+        MOST_SLOT_SIZE + 1,
+        MOST_SLOT_SIZE + 8,
         1 << 31,
         u32::MAX - 7,
     ];
@@ -66,7 +68,17 @@ fn lengths() -> Case {
     let ring = Ring::SMALL;
     let total = ring.total();
     let mut case = Case::new("Create's 4: region lengths");
-    for length in [0, 1, 383, 384, 385, total - 1, total + 1, 65_536, total] {
+    for length in [
+        0,
+        1,
+        383,
+        384,
+        385,
+        total - 1,
+        total + 1,
+        Case::PATTERNED,
+        total,
+    ] {
         case = case.lend(Part::Region, length).ask(ring.create());
     }
     case
@@ -94,7 +106,17 @@ fn attach_lengths(ring: Ring) -> Case {
     let mut case = Case::new(format!("Attach's 4: region lengths, total {total}"))
         .lend(Part::Region, total)
         .ask(ring.create());
-    for length in [0, 1, 383, 384, 385, total - 1, total + 1, 65_536, total] {
+    for length in [
+        0,
+        1,
+        383,
+        384,
+        385,
+        total - 1,
+        total + 1,
+        Case::PATTERNED,
+        total,
+    ] {
         case = case.lend(Part::Region, length).asks(SIDES.map(Ask::Attach));
     }
     case
@@ -154,6 +176,8 @@ fn order() -> Case {
 /// Words set whole, to values that a sum or a product would wrap at.
 fn whole_words() -> Case {
     const TOTAL: u64 = 416;
+    const MOST: u64 = MOST_SLOT_SIZE as u64;
+    const POWER: u64 = MOST_POWER as u64;
     let words: [(usize, u16, &[u64]); 7] = [
         (
             Header::AT_TOTAL_SIZE,
@@ -173,9 +197,13 @@ fn whole_words() -> Case {
         (
             Header::AT_SLOT_SIZE,
             4,
-            &[0, 8, 12, 32, 4096, 4104, 16 + (1 << 31)],
+            &[0, 8, 12, 32, MOST, MOST + 8, 16 + (1 << 31)],
         ),
-        (Header::AT_POWER, 1, &[0, 2, 10, 11, 33, 65, 129, 255]),
+        (
+            Header::AT_POWER,
+            1,
+            &[0, 2, POWER, POWER + 1, 33, 65, 129, 255],
+        ),
         (Header::AT_HEAD, 8, &[1, u64::MAX]),
         (Header::AT_TAIL, 8, &[1, u64::MAX]),
     ];
@@ -199,6 +227,31 @@ fn whole_words() -> Case {
 }
 
 /// Each of the low seven bits and the first reserved one, from either side.
+/// A header with no ring behind it, for sizes whose ring is 0 bytes in 32 bits: 4.
+fn cut_products() -> Case {
+    const SIZE: u32 = Header::SIZE as u32;
+    let mut case = Case::new("Answer 4: sizes whose ring is 0 bytes in 32 bits");
+    for (power, slot_size) in Ring::CUT {
+        let ring = Ring {
+            power,
+            slot_size,
+            ..Ring::SMALL
+        };
+        case = case
+            .lend(Part::Region, SIZE)
+            .ask(ring.create())
+            .lend(Part::Region, Ring::SMALL.total())
+            .ask(Ring::SMALL.create())
+            .lend(Part::Region, SIZE)
+            .put(Header::AT_TOTAL_SIZE, 8, SIZE.into())
+            .put(Header::AT_RING_BYTES, 8, 0)
+            .put(Header::AT_POWER, 1, power.into())
+            .put(Header::AT_SLOT_SIZE, 4, slot_size.into())
+            .asks(SIDES.map(Ask::Attach));
+    }
+    case
+}
+
 fn flags() -> Case {
     let mut case = Case::new("Attach: flag bits, 4 before 14 before 16")
         .lend(Part::Region, Ring::SMALL.total());

@@ -10,7 +10,7 @@ pub mod record;
 mod rings;
 mod spoilt;
 pub mod stage;
-mod sums;
+pub mod sums;
 mod turns;
 mod walks;
 

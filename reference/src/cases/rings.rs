@@ -4,6 +4,7 @@ use crate::cases::case::{Case, Ring};
 use crate::cases::record::{Ask, Part};
 use crate::header::Header;
 use crate::party::Side;
+use crate::region::MOST_SLOT_SIZE;
 use Side::{Recorder, Sender};
 
 pub fn list() -> Vec<Case> {
@@ -43,9 +44,10 @@ fn around(start: u64) -> Case {
     case
 }
 
-/// The least and the largest slot and power, each with a note of every length at its ends.
+/// The least and the largest slot, and as many slots as there is room for, each with notes of the
+/// least and the largest length.
 fn sizes() -> Vec<Case> {
-    [(1, 8), (10, 8), (1, 4096), (3, 4096), (9, 96)]
+    [(1, 8), (14, 8), (1, MOST_SLOT_SIZE), (3, 4096), (9, 96)]
         .map(|(power, slot_size)| {
             let ring = Ring {
                 power,
@@ -57,6 +59,7 @@ fn sizes() -> Vec<Case> {
             let name = format!("Sizes: power {power}, slot {slot_size}");
             Case::new(name)
                 .lend(Part::Region, ring.total())
+                .pattern(Case::PATTERNED)
                 .ask(ring.create())
                 .put(Header::AT_HEAD, 8, used)
                 .ask(Ask::Attach(Sender))

@@ -37,9 +37,10 @@ impl Default for Stage {
 }
 
 impl Stage {
-    /// Room for the regions that are played, and for the largest payload and buffer.
-    pub const REGION: usize = 65_536;
-    const ROOM: usize = 4096;
+    /// Room for the largest slot twice, and for a ring of as many bytes with the smallest slots.
+    pub const REGION: usize = 131_456;
+    /// Room for the largest payload and buffer.
+    const ROOM: usize = 65_536;
 
     pub fn new() -> Self {
         let mut payload = vec![0; Stage::ROOM];
@@ -71,7 +72,7 @@ impl Stage {
     /// The report of a record that was just played.
     pub fn report(&self, record: Record, came: Came) -> [u8; REPORT] {
         let region = Sum::default().mix_bytes(&self.region[..room(record.region, &self.region)]);
-        let buffer = Sum::default().mix_bytes(&self.buffer);
+        let buffer = Sum::default().mix_bytes(&self.buffer[..room(record.lent, &self.buffer)]);
         let words = [
             told_word(record.ask.kind(), came.answer),
             party_word(Side::Sender, &self.bench.sender),
@@ -151,7 +152,7 @@ impl Stage {
                 .recorder_turn(region, &mut self.buffer[..end], failure),
         };
         if copies && side == Side::Recorder {
-            self.copied.clone_from(&self.buffer);
+            self.copied = self.buffer[..end].to_vec();
         }
         answer
     }
