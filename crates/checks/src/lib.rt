@@ -17,7 +17,7 @@ fn magic_ok(region: &[u8]) -> bool
     requires { ⌜ headerBytes ≤ length (now region) ⌝ }
     ensures { λ r. ⌜ r ≡ magicOk (now (region .entry)) ⌝ }
 {
-    runs::same_bytes(region, 0, &Header::MAGIC)
+    scans::same_bytes(region, 0, &Header::MAGIC)
 }
 
 fn version_ok(region: &[u8]) -> bool
@@ -55,15 +55,15 @@ fn reserved_ok(region: &[u8]) -> bool
     ensures { λ r. ⌜ r ≡ allZero (now (region .entry)) reserved ⌝ }
 {
     let bells = types::both(
-        runs::all_zero(region, 60, 0x104),
-        runs::all_zero(region, 60, 0x144),
+        scans::all_zero(region, 60, 0x104),
+        scans::all_zero(region, 60, 0x144),
     );
-    let tail = types::both(runs::all_zero(region, 56, 0x0C8), bells);
-    let head = types::both(runs::all_zero(region, 56, 0x088), tail);
-    let error = types::both(runs::all_zero(region, 36, 0x05C), head);
-    let flags = types::both(runs::all_zero(region, 4, 0x04C), error);
-    let slot = types::both(runs::all_zero(region, 4, 0x044), flags);
-    types::both(runs::all_zero(region, 7, 0x039), slot)
+    let tail = types::both(scans::all_zero(region, 56, 0x0C8), bells);
+    let head = types::both(scans::all_zero(region, 56, 0x088), tail);
+    let error = types::both(scans::all_zero(region, 36, 0x05C), head);
+    let flags = types::both(scans::all_zero(region, 4, 0x04C), error);
+    let slot = types::both(scans::all_zero(region, 4, 0x044), flags);
+    types::both(scans::all_zero(region, 7, 0x039), slot)
 }
 
 fn check_flags(flags: u32, side: Side) -> Answer

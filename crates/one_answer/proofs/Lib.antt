@@ -19,6 +19,7 @@ pub mod Opening
 pub mod Records
 pub mod Reports
 pub mod Runs
+pub mod Scans
 pub mod Asked
 pub mod Script
 pub mod Seats

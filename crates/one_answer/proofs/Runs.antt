@@ -14,9 +14,3 @@ shift κs a z z′ ws ws′ p q = (refl, ap (λ v. (v, (tt, (tt, tt)))) (p ∙ s
 
 pub clear : OneAnswer code.clear.Kinds.ps code.clear.Kinds.r code.clear.Reads.Post
 clear κs a z z′ ws ws′ p q = (refl, ap (λ v. (v, (tt, tt))) (p ∙ sym q))
-
-pub all-zero : OneAnswer code.all_zero.Kinds.ps code.all_zero.Kinds.r code.all_zero.Reads.Post
-all-zero κs a z z′ ws ws′ p q = (p ∙ sym q, refl)
-
-pub same-bytes : OneAnswer code.same_bytes.Kinds.ps code.same_bytes.Kinds.r code.same_bytes.Reads.Post
-same-bytes κs a z z′ ws ws′ p q = (p ∙ sym q, refl)

@@ -5,8 +5,8 @@ use borrow.Author.Count.{below-more}
 use native.Mathlib.Omega.{arith}
 use lib.ListN.{length, getD}
 use Rattle.words.proofs.Runs.{bytesAre-true, bytesAre-false}
-use Rattle.runs.proofs.same_bytes.Statement.{statement}
-use Rattle.runs.proofs.same_bytes.Tie as tie
+use Rattle.scans.proofs.same_bytes.Statement.{statement}
+use Rattle.scans.proofs.same_bytes.Tie as tie
 
 abbrev Inv-loop : tie.InvT-loop
 Inv-loop s at t k₀ k-end k = (k ≤ length t) × ((j : ℕ) → j < k → getD s (at + j) 0 ≡ getD t j 0)

@@ -2,9 +2,9 @@ use mathlib.Core.Path.{sym, _∙_}
 use mathlib.Core.Bool.{true, false}
 use borrow.Author.Needs.{needs}
 use borrow.Author.Tests.{not-true, not-false}
-use Rattle.runs.proofs.Zeros.{odd-first}
-use Rattle.runs.proofs.all_zero.Statement.{statement}
-use Rattle.runs.proofs.all_zero.Tie as tie
+use Rattle.scans.proofs.Zeros.{odd-first}
+use Rattle.scans.proofs.all_zero.Statement.{statement}
+use Rattle.scans.proofs.all_zero.Tie as tie
 
 returns : tie.Need-returns
 returns c =
