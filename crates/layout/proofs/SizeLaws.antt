@@ -8,7 +8,7 @@ use Prim.Native.Nat.{ℕ, _+_, _*_, _%_, _^_, _≤_, _<_}
 use native.Mathlib.Omega.{arith}
 use native.Mathlib.Decide.{decLt}
 use native.Mathlib.Nat.{mod-lt, mul-le-mul-left, mul-le-mul-right, suc-mul}
-use borrow.Author.Tests.{leb-true, eqb-true, le-leb}
+use borrow.Author.Tests.{leb-true, le-leb}
 use lib.Dec.{leb, eqb}
 use lib.Pow.{pow-mono}
 use Rattle.types.specs.Pick.{pick}
@@ -44,10 +44,6 @@ module _ (slot : ℕ) (ok : slotOk slot ≡ true) where
 
   pub slot-most : slot ≤ mostSlot
   slot-most = leb-true slot mostSlot (and-right (leb leastSlot slot) (leb slot mostSlot) bounds)
-
-  pub slot-steps : slot % slotStep ≡ 0
-  unfolding slotOk
-  slot-steps = eqb-true (slot % slotStep) 0 (and-right (leb leastSlot slot && leb slot mostSlot) (eqb (slot % slotStep) 0) ok)
 
   pub total-most : (power : ℕ) → totalBytes power slot ≤ totalBytes mostPower mostSlot
   unfolding totalBytes ringBytes

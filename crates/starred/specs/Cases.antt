@@ -1,4 +1,4 @@
--- Document 01's starred cases: a table, and what each row claims.
+-- Document 01's starred cases, at the limits of request (iv): a table, and what each row claims.
 use mathlib.Core.Path.{_≡_}
 use mathlib.Core.Bool.{Bool, true}
 use mathlib.Core.List.{List, [], _∷_}
