@@ -48,8 +48,9 @@ far head tail h power =
     (too-many (minus 64 head tail) (capacity power) (capacity power) l, too-many (minus 64 head tail) (capacity power) 0 l)
 
 most : (total payload : ℕ) → totalBytes mostPower mostSlot ≡ total → payloadCapacity mostSlot ≡ payload → Largest total payload
-unfolding payloadCapacity
-most total payload t p power slot power-ok slot-ok = (rw t at (total-most slot slot-ok power), omega (arith, slot-most slot slot-ok))
+unfolding payloadCapacity powerOk slotOk
+most total payload t p =
+    ((λ power slot power-ok slot-ok. (rw t at (total-most slot slot-ok power), omega (arith, slot-most slot slot-ok))), (mostPower, (mostSlot, (refl, (refl, (t, p))))))
 
 -- What create makes of accepted sizes, attach accepts; refused sizes decide before the rest, and flags last; the start of
 -- the counters does not matter.

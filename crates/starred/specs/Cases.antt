@@ -25,7 +25,7 @@ use Rattle.rules.specs.Looks.{roomOf}
 pub data Case : Type 0 where
   -- sizes that are accepted, with the total and the payload capacity
   accepted : (power slot total payload : ℕ) → Case
-  -- the largest total and the largest payload capacity of all sizes that are accepted
+  -- the largest total and the largest payload capacity of all sizes within the limits
   largest : (total payload : ℕ) → Case
   -- sizes that are refused
   refused : (power slot : ℕ) → Answer → Case
@@ -69,9 +69,11 @@ Accepted power slot total payload =
     × ((r : List ℕ) (notfull : Bool) (start : ℕ) (side : Side) → length r ≡ total → start < 256 ^ 8
     → attachAnswer (created r power slot notfull start) side ≡ Done 0 0)
 
+-- no sizes within the limits have more, and some have as much
 abbrev pub Largest : (total payload : ℕ) → Type 0
 Largest total payload =
-    (power slot : ℕ) → powerOk power ≡ true → slotOk slot ≡ true → (totalBytes power slot ≤ total) × (payloadCapacity slot ≤ payload)
+    ((power slot : ℕ) → powerOk power ≡ true → slotOk slot ≡ true → (totalBytes power slot ≤ total) × (payloadCapacity slot ≤ payload))
+    × ((power : ℕ) × ((slot : ℕ) × ((powerOk power ≡ true) × ((slotOk slot ≡ true) × ((totalBytes power slot ≡ total) × (payloadCapacity slot ≡ payload))))))
 
 -- create refuses any region, and attach any whole header with those sizes, whatever its ring bytes and flags are
 abbrev pub Refused : (power slot : ℕ) → Answer → Type 0

@@ -36,7 +36,7 @@ impl Ring {
         (region::MOST_POWER, region::MOST_SLOT_SIZE),
     ];
 
-    /// The region's length; the sizes are within the limits, and their slots are few.
+    /// The region's length; the sizes are within the limits, and of a ring that is played.
     pub fn total(self) -> u32 {
         region::total_size(self.power, self.slot_size) as u32
     }
