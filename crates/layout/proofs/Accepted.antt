@@ -11,14 +11,23 @@ use Rattle.types.specs.Sides.{other}
 use Rattle.types.specs.Answers.{Test, test, firstOf}
 use Rattle.types.specs.declared.Side.{Side}
 use Rattle.types.specs.declared.Side.the-variants.{Sender, Recorder}
-use Rattle.types.specs.declared.Answer.the-variants.{Done, InvalidLayout, InvalidCapacity, InvalidSlotSize, AlreadyAttached}
-use Rattle.layout.specs.Limits.{headerBytes, mostSlot, slotOk, powerOk, ringBytes, totalBytes}
+use Rattle.types.specs.declared.Answer.the-variants.{Done, InvalidLayout, InvalidCapacity, InvalidSlotSize, AlreadyAttached, BadCall}
+use Rattle.layout.specs.Limits.{headerBytes, mostSlot, slotOk, powerOk, spinsOk, ringBytes, totalBytes}
 use Rattle.layout.specs.Flags.{worth, notFullOn, bitOn, setBit, attachMark}
 use Rattle.layout.specs.Header.{headed}
 use Rattle.layout.specs.Create.{createAnswer, firstFlags, created}
-use Rattle.layout.specs.Attach.{flagChecks, ringChecks, attachChecks, fresh, attachAnswer, attachReply, attachLeaves}
+use Rattle.layout.specs.Attach.{flagChecks, ringChecks, regionChecks, attachChecks, fresh, attachAnswer, attachReply, attachLeaves}
 use Rattle.layout.proofs.SizeLaws.{slot-most, power-most, ring-room}
 use Rattle.layout.proofs.Headed.{Fitting, length-headed, headed-magic, headed-version, headed-size, headed-sizes, headed-ring, headed-reserved, headed-power, headed-slot, headed-flags, headed-counter, headed-flagged}
+
+-- a spin count above the limit decides before any region; within it, the region does
+pub spins-refused : (r : List ℕ) (side : Side) (spins : ℕ) → spinsOk spins ≡ false → attachAnswer r side spins ≡ BadCall
+unfolding attachAnswer attachChecks
+spins-refused r side spins h = rw h refl
+
+pub spins-taken : (r : List ℕ) (side : Side) (spins : ℕ) → spinsOk spins ≡ true → attachAnswer r side spins ≡ firstOf (regionChecks r side)
+unfolding attachAnswer attachChecks
+spins-taken r side spins h = rw h refl
 
 -- what is left to test of a whole header
 abbrev pub sizeChecks : (ring power slot flags : ℕ) → Side → List Test
@@ -29,9 +38,9 @@ sizeChecks ring power slot flags side =
     ∷ flagChecks flags side
 
 module _ (r : List ℕ) (ring power slot flags start : ℕ) (f : Fitting r ring power slot flags start) where
-  pub attach-headed : (side : Side) → attachAnswer (headed r ring power slot flags start) side ≡ firstOf (sizeChecks ring power slot flags side)
-  unfolding attachAnswer attachChecks ringChecks
-  attach-headed side =
+  region-headed : (side : Side) → firstOf (regionChecks (headed r ring power slot flags start) side) ≡ firstOf (sizeChecks ring power slot flags side)
+  unfolding regionChecks ringChecks
+  region-headed side =
       simp (
         length-headed r ring power slot flags start f,
         f .long,
@@ -47,11 +56,14 @@ module _ (r : List ℕ) (ring power slot flags start : ℕ) (f : Fitting r ring 
         headed-flags r ring power slot flags start f,
       )
 
+  pub attach-headed : (side : Side) (spins : ℕ) → spinsOk spins ≡ true → attachAnswer (headed r ring power slot flags start) side spins ≡ firstOf (sizeChecks ring power slot flags side)
+  attach-headed side spins h = spins-taken (headed r ring power slot flags start) side spins h ∙ region-headed side
+
   -- where it is accepted, the one bit is set and nothing else changes
-  pub leaves-headed : (side : Side) → attachAnswer (headed r ring power slot flags start) side ≡ Done 0 0
-      → attachLeaves (headed r ring power slot flags start) side ≡ headed r ring power slot (setBit (worth (attachMark side)) flags) start
+  pub leaves-headed : (side : Side) (spins : ℕ) → attachAnswer (headed r ring power slot flags start) side spins ≡ Done 0 0
+      → attachLeaves (headed r ring power slot flags start) side spins ≡ headed r ring power slot (setBit (worth (attachMark side)) flags) start
   unfolding attachLeaves
-  leaves-headed side e =
+  leaves-headed side spins e =
       rw (e, headed-flags r ring power slot flags start f) (headed-flagged r ring power slot flags start f (setBit (worth (attachMark side)) flags))
 
 -- what a create that is done says
@@ -137,10 +149,10 @@ module _ (r : List ℕ) (power slot : ℕ) (notfull : Bool) (start : ℕ) (done 
       }
 
   -- with any flags, what is left to test is the flags
-  attach-flags : (flags : ℕ) → flags < 256 ^ 4 → (side : Side) → attachAnswer (headed r (ringBytes power slot) power slot flags start) side ≡ firstOf (flagChecks flags side)
-  attach-flags flags h side =
+  attach-flags : (flags : ℕ) → flags < 256 ^ 4 → (side : Side) (spins : ℕ) → spinsOk spins ≡ true → attachAnswer (headed r (ringBytes power slot) power slot flags start) side spins ≡ firstOf (flagChecks flags side)
+  attach-flags flags h side spins few =
       let t = tests in
-      attach-headed r (ringBytes power slot) power slot flags start (fits flags h) side
+      attach-headed r (ringBytes power slot) power slot flags start (fits flags h) side spins few
       ∙ rw (t .0, t .1, eq-eqb (ringBytes power slot) (ringBytes power slot) refl)
 
   -- the created header with more flags
@@ -150,46 +162,47 @@ module _ (r : List ℕ) (power slot : ℕ) (notfull : Bool) (start : ℕ) (done 
   pub first-small : firstFlags notfull < 256 ^ 4
   first-small = omega (arith, flags-small notfull 0 (omega arith))
 
-  -- each side is accepted, and sets its own bit ..
-  pub accepted : (side : Side) → attachAnswer (created r power slot notfull start) side ≡ Done 0 0
+  -- each side is accepted, with whatever count within the limit, and sets its own bit ..
+  pub accepted : (side : Side) (spins : ℕ) → spinsOk spins ≡ true → attachAnswer (created r power slot notfull start) side spins ≡ Done 0 0
   unfolding created
-  accepted side = attach-flags (firstFlags notfull) first-small side ∙ nobody-in notfull side
+  accepted side spins few = attach-flags (firstFlags notfull) first-small side spins few ∙ nobody-in notfull side
 
-  pub attached-first : (side : Side) → attachLeaves (created r power slot notfull start) side ≡ with-bits (ownBit side)
+  pub attached-first : (side : Side) (spins : ℕ) → spinsOk spins ≡ true → attachLeaves (created r power slot notfull start) side spins ≡ with-bits (ownBit side)
   unfolding created
-  attached-first side =
-      leaves-headed r (ringBytes power slot) power slot (firstFlags notfull) start (fits (firstFlags notfull) first-small) side (accepted side)
+  attached-first side spins few =
+      leaves-headed r (ringBytes power slot) power slot (firstFlags notfull) start (fits (firstFlags notfull) first-small) side spins (accepted side spins few)
       ∙ rw (first-bit notfull side)
 
   -- .. once: then it is refused by 16 and the other side is accepted
-  pub refused-second : (side : Side) → attachAnswer (with-bits (ownBit side)) side ≡ AlreadyAttached
-  refused-second side = attach-flags (firstFlags notfull + ownBit side) (flags-small notfull (ownBit side) (own-small side)) side ∙ self-in notfull side
+  pub refused-second : (side : Side) (spins : ℕ) → spinsOk spins ≡ true → attachAnswer (with-bits (ownBit side)) side spins ≡ AlreadyAttached
+  refused-second side spins few = attach-flags (firstFlags notfull + ownBit side) (flags-small notfull (ownBit side) (own-small side)) side spins few ∙ self-in notfull side
 
-  pub accepted-other : (side : Side) → attachAnswer (with-bits (ownBit (other side))) side ≡ Done 0 0
-  accepted-other side =
-      attach-flags (firstFlags notfull + ownBit (other side)) (flags-small notfull (ownBit (other side)) (own-small (other side))) side ∙ other-in notfull side
+  pub accepted-other : (side : Side) (spins : ℕ) → spinsOk spins ≡ true → attachAnswer (with-bits (ownBit (other side))) side spins ≡ Done 0 0
+  accepted-other side spins few =
+      attach-flags (firstFlags notfull + ownBit (other side)) (flags-small notfull (ownBit (other side)) (own-small (other side))) side spins few ∙ other-in notfull side
 
   -- in either order the two leave the header as created but for their bits, and nobody is accepted any more
-  pub attached-both : (side : Side) → attachLeaves (attachLeaves (created r power slot notfull start) (other side)) side ≡ with-bits bothBits
-  attached-both side =
+  pub attached-both : (side : Side) (spins theirs : ℕ) → spinsOk spins ≡ true → spinsOk theirs ≡ true
+      → attachLeaves (attachLeaves (created r power slot notfull start) (other side) theirs) side spins ≡ with-bits bothBits
+  attached-both side spins theirs few also =
       let h = flags-small notfull (ownBit (other side)) (own-small (other side)) in
-      ap (λ (x : List ℕ). attachLeaves x side) (attached-first (other side))
-      ∙ leaves-headed r (ringBytes power slot) power slot (firstFlags notfull + ownBit (other side)) start (fits (firstFlags notfull + ownBit (other side)) h) side (accepted-other side)
+      ap (λ (x : List ℕ). attachLeaves x side spins) (attached-first (other side) theirs also)
+      ∙ leaves-headed r (ringBytes power slot) power slot (firstFlags notfull + ownBit (other side)) start (fits (firstFlags notfull + ownBit (other side)) h) side spins (accepted-other side spins few)
       ∙ rw (second-bit notfull side)
 
-  pub refused-both : (side : Side) → attachAnswer (with-bits bothBits) side ≡ AlreadyAttached
-  refused-both side = attach-flags (firstFlags notfull + bothBits) (flags-small notfull bothBits (omega arith)) side ∙ both-in notfull side
+  pub refused-both : (side : Side) (spins : ℕ) → spinsOk spins ≡ true → attachAnswer (with-bits bothBits) side spins ≡ AlreadyAttached
+  refused-both side spins few = attach-flags (firstFlags notfull + bothBits) (flags-small notfull bothBits (omega arith)) side spins few ∙ both-in notfull side
 
-  -- the record of an accepted side: its own copy of what create was given
-  pub attached-record : (side : Side) → attachReply (created r power slot notfull start) side ≡ record {
-    party = fresh (record { side = side; attached = true; power = power; slot = slot; notfull = notfull }) start;
+  -- the record of an accepted side: its own copy of what create was given, and its count
+  pub attached-record : (side : Side) (spins : ℕ) → spinsOk spins ≡ true → attachReply (created r power slot notfull start) side spins ≡ record {
+    party = fresh (record { side = side; attached = true; power = power; slot = slot; notfull = notfull; spins = spins }) start;
     answer = Done 0 0;
   }
   unfolding attachReply created
-  attached-record side =
+  attached-record side spins few =
       let f = fits (firstFlags notfull) first-small in
       rw (
-        accepted side,
+        accepted side spins few,
         headed-power r (ringBytes power slot) power slot (firstFlags notfull) start f,
         headed-slot r (ringBytes power slot) power slot (firstFlags notfull) start f,
         headed-flags r (ringBytes power slot) power slot (firstFlags notfull) start f,

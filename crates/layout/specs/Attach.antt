@@ -14,8 +14,8 @@ use Rattle.types.specs.declared.Party.{Party}
 use Rattle.types.specs.declared.Reply.{Reply}
 use Rattle.types.specs.declared.Step.the-variants.{Rest}
 use Rattle.types.specs.declared.Answer.{Answer}
-use Rattle.types.specs.declared.Answer.the-variants.{InvalidMagic, UnsupportedVersion, InvalidHeaderSize, InvalidLayout, InvalidCapacity, InvalidSlotSize, WouldBlock, AlreadyAttached}
-use Rattle.layout.specs.Limits.{headerBytes, slotOk, powerOk, ringBytes}
+use Rattle.types.specs.declared.Answer.the-variants.{InvalidMagic, UnsupportedVersion, InvalidHeaderSize, InvalidLayout, InvalidCapacity, InvalidSlotSize, WouldBlock, AlreadyAttached, BadCall}
+use Rattle.layout.specs.Limits.{headerBytes, slotOk, powerOk, spinsOk, ringBytes}
 use Rattle.layout.specs.Flags.{initialised, worth, notFullOn, reservedFrom, bitOn, setBit, attachMark}
 use Rattle.layout.specs.Header.{magic, majorAt, minorAt, headerSizeAt, totalSizeAt, ringOffsetAt, ringBytesAt, arenaOffsetAt, arenaBytesAt, powerAt, slotSizeAt, flagsAt, counterAt, reserved, allZero}
 
@@ -50,8 +50,9 @@ ringChecks r side =
     ∷ test (allZero r reserved) InvalidLayout
     ∷ flagChecks (leAt 4 r flagsAt) side
 
-unfoldable pub attachChecks : List ℕ → Side → List Test
-attachChecks r side =
+-- the region's, in their order
+unfoldable pub regionChecks : List ℕ → Side → List Test
+regionChecks r side =
     test (leb headerBytes (length r)) InvalidLayout
     ∷ test (magicOk r) InvalidMagic
     ∷ test (versionOk r) UnsupportedVersion
@@ -59,8 +60,12 @@ attachChecks r side =
     ∷ test (sizesOk r) InvalidLayout
     ∷ ringChecks r side
 
-unfoldable pub attachAnswer : List ℕ → Side → Answer
-attachAnswer r side = firstOf (attachChecks r side)
+-- the spin count before them all
+unfoldable pub attachChecks : List ℕ → Side → (spins : ℕ) → List Test
+attachChecks r side spins = test (spinsOk spins) BadCall ∷ regionChecks r side
+
+unfoldable pub attachAnswer : List ℕ → Side → (spins : ℕ) → Answer
+attachAnswer r side spins = firstOf (attachChecks r side spins)
 
 -- a party at rest that has named nothing yet
 abbrev pub fresh : Own → (counter : ℕ) → Party
@@ -68,11 +73,11 @@ fresh own counter = record { own = own; closed = false; counter = counter; block
 
 -- the record of a party not attached
 abbrev pub unattached : Side → Party
-unattached side = fresh (record { side = side; attached = false; power = 0; slot = 0; notfull = false }) 0
+unattached side = fresh (record { side = side; attached = false; power = 0; slot = 0; notfull = false; spins = 0 }) 0
 
--- its own copy of the counter, the sizes and the option; its own close starts false
-abbrev pub attached : List ℕ → Side → Party
-attached r side =
+-- its own copy of the counter, the sizes and the option, and its spin count; its own close starts false
+abbrev pub attached : List ℕ → Side → (spins : ℕ) → Party
+attached r side spins =
     fresh
     (record {
       side = side;
@@ -80,20 +85,21 @@ attached r side =
       power = leAt 1 r powerAt;
       slot = leAt 4 r slotSizeAt;
       notfull = bitOn notFullOn (leAt 4 r flagsAt);
+      spins = spins;
     })
     (leAt 8 r (counterAt side))
 
 -- a refusal gives back the record of a party not attached
-unfoldable pub attachReply : List ℕ → Side → Reply
-attachReply r side =
+unfoldable pub attachReply : List ℕ → Side → (spins : ℕ) → Reply
+attachReply r side spins =
     record {
-      party = pick (eqb (number (attachAnswer r side)) 0) (attached r side) (unattached side);
-      answer = attachAnswer r side;
+      party = pick (eqb (number (attachAnswer r side spins)) 0) (attached r side spins) (unattached side);
+      answer = attachAnswer r side spins;
     }
 
 -- and changes no byte; success sets the one bit
-unfoldable pub attachLeaves : List ℕ → Side → List ℕ
-attachLeaves r side =
-    pick (eqb (number (attachAnswer r side)) 0)
+unfoldable pub attachLeaves : List ℕ → Side → (spins : ℕ) → List ℕ
+attachLeaves r side spins =
+    pick (eqb (number (attachAnswer r side spins)) 0)
     (putLe 4 r flagsAt (setBit (worth (attachMark side)) (leAt 4 r flagsAt)))
     r

@@ -16,6 +16,10 @@ leastSlot = 8
 abbrev pub mostSlot : ℕ
 mostSlot = 65536
 
+-- a party spins at most so often before it sleeps
+abbrev pub mostSpins : ℕ
+mostSpins = 1000
+
 -- slot sizes go in steps of 8
 abbrev pub slotStep : ℕ
 slotStep = 8
@@ -32,6 +36,9 @@ powerOk power = leb leastPower power && leb power mostPower
 
 unfoldable pub slotOk : ℕ → Bool
 slotOk slot = leb leastSlot slot && leb slot mostSlot && eqb (slot % slotStep) 0
+
+unfoldable pub spinsOk : ℕ → Bool
+spinsOk spins = leb spins mostSpins
 
 -- 2^power; a power above the limit has no ring, so no slots
 unfoldable pub capacity : ℕ → ℕ

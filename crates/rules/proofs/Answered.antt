@@ -1,5 +1,5 @@
 -- Each call and turn is given the answer of its row of the table, and no other.
-use mathlib.Core.Path.{_≡_, refl, sym, subst}
+use mathlib.Core.Path.{_≡_, refl, sym, _∙_, subst}
 use mathlib.Core.Bool.{Bool, true, false, not, _&&_}
 use mathlib.Core.List.{List, [], _∷_}
 use Prim.Native.Nat.{ℕ, _%_, _^_}
@@ -21,7 +21,7 @@ use Rattle.types.specs.declared.Fit.the-variants.{Bad, Small, Fits}
 use Rattle.types.specs.declared.Nap.{Nap}
 use Rattle.types.specs.declared.Nap.the-variants.{Sleeps, Returns, TimedOut, Fails}
 use Rattle.types.specs.declared.Step.{Step}
-use Rattle.types.specs.declared.Step.the-variants.{Rest, Look, Copy, Publish, Check, Raise, Wake, Gate, Epoch, Again, GateAgain, Wait, Asleep, LastLook, CloseSet, CloseRaise, CloseWake, ShutSet, ShutRaiseNe, ShutWakeNe, ShutRaiseNf, ShutWakeNf}
+use Rattle.types.specs.declared.Step.the-variants.{Rest, Look, Copy, Publish, Check, Raise, Wake, Gate, Spin, Epoch, Again, GateAgain, Wait, Asleep, LastLook, CloseSet, CloseRaise, CloseWake, ShutSet, ShutRaiseNe, ShutWakeNe, ShutRaiseNf, ShutWakeNf}
 use Rattle.types.specs.declared.Move.the-variants.{To, End}
 use Rattle.types.specs.declared.Answer.{Answer}
 use Rattle.types.specs.declared.Answer.the-variants.{Done, CorruptIndices, Closed, Timeout, Syscall}
@@ -31,7 +31,7 @@ use Rattle.layout.specs.Attach.{attachChecks, attachAnswer, attachReply}
 use Rattle.layout.specs.Slots.{headOf}
 use Rattle.rules.specs.Sides.{ringBell, sleepBell, rings, waitOp, wakeOp}
 use Rattle.rules.specs.Looks.{roomOf, wasBlocked, doorOf, fitOf, napOf}
-use Rattle.rules.specs.Steps.{roomMove, blockedMove, lookMove, fitMove, copyWith, copyMove, publishMove, checkMove, wakeMove, doorMove, gateMove, againMove, napMove, waitMove, lastMove, closeMove, shutMove}
+use Rattle.rules.specs.Steps.{roomMove, blockedMove, lookMove, fitMove, copyWith, copyMove, publishMove, checkMove, wakeMove, doorMove, gateMove, toSpin, spinMove, againMove, napMove, waitMove, lastMove, closeMove, shutMove}
 use Rattle.rules.specs.Take.{stanceOf, moveAt, answerOf, moveOf, takeSpec}
 use Rattle.rules.specs.Next.{nextSpec}
 use Rattle.rules.specs.Access.{valueOf}
@@ -120,12 +120,12 @@ module _ (p : Party) (v e : ℕ) where
   wake-ends l t s true h = woke s h
   wake-ends l t s false h = wake-failed s h
 
-  gate-ends : p .step ≡ Gate → (side : Side) → p .own .side ≡ side → (d : Door) → doorOf side v ≡ d → EndsWith p v e (answerOf (doorMove d side Epoch))
+  gate-ends : p .step ≡ Gate → (side : Side) → p .own .side ≡ side → (d : Door) → doorOf side v ≡ d → EndsWith p v e (answerOf (doorMove d side (toSpin (p .own .spins))))
   unfolding moveOf gateMove
   gate-ends s side o Shut h = down s (rw o h)
   gate-ends s Sender o Left h = left s o h
   gate-ends s Recorder o Left h = goes-on {s = LastLook false} (rw (s, o, h))
-  gate-ends s side o Open h = goes-on {s = Epoch} (rw (s, o, h))
+  gate-ends s side o Open h = goes-on {s = toSpin (p .own .spins)} (rw (s, o, h))
 
   gate-again-ends : (n : ℕ) → p .step ≡ GateAgain n → (side : Side) → p .own .side ≡ side → (d : Door) → doorOf side v ≡ d → EndsWith p v e (answerOf (doorMove d side (Wait n)))
   unfolding moveOf gateMove
@@ -134,11 +134,11 @@ module _ (p : Party) (v e : ℕ) where
   gate-again-ends n s Recorder o Left h = goes-on {s = LastLook false} (rw (s, o, h))
   gate-again-ends n s side o Open h = goes-on {s = Wait n} (rw (s, o, h))
 
-  again-ends : (n : ℕ) → p .step ≡ Again n → (r : Room) → room-here ≡ r → EndsWith p v e (answerOf (roomMove r (To (GateAgain n))))
-  unfolding moveOf againMove
-  again-ends n s Corrupt h = goes-on {s = ShutSet true} (rw (s, h))
-  again-ends n s Blocked h = goes-on {s = GateAgain n} (rw (s, h))
-  again-ends n s Free h = goes-on {s = Copy} (rw (s, h))
+  -- a look that goes on where there is no room: a spin, B3, W3
+  looks-on : (t : Step) → moveOf p v e ≡ roomMove room-here (To t) → (r : Room) → room-here ≡ r → EndsWith p v e (answerOf (roomMove r (To t)))
+  looks-on t m Corrupt h = goes-on {s = ShutSet true} (m ∙ rw h)
+  looks-on t m Blocked h = goes-on {s = t} (m ∙ rw h)
+  looks-on t m Free h = goes-on {s = Copy} (m ∙ rw h)
 
   wait-ends : (n : ℕ) → p .step ≡ Wait n → (k : Nap) → napOf e (eqb v n) ≡ k → EndsWith p v e (answerOf (napMove k (waitOp (sleepBell (p .own .side))) e))
   unfolding moveOf waitMove
@@ -171,7 +171,7 @@ module _ (p : Party) (v e : ℕ) where
   shut-ends false n s true h false k = shut-failed-last s h k
 
   step-ends : (s : Step) → p .step ≡ s → EndsWith p v e (answerOf (moveAt s (p .own) (p .counter) (p .blocking) (p .length) v e))
-  unfolding moveOf lookMove copyMove publishMove checkMove wakeMove gateMove againMove waitMove lastMove closeMove shutMove
+  unfolding moveOf lookMove copyMove publishMove checkMove wakeMove gateMove spinMove againMove waitMove lastMove closeMove shutMove
   step-ends Rest s = resting s
   step-ends Look s = look-ends s room-here refl (p .blocking) refl (p .own .side) refl
   step-ends Copy s = copy-ends s (p .own .side) refl fit-here refl
@@ -180,8 +180,9 @@ module _ (p : Party) (v e : ℕ) where
   step-ends (Raise l t) s = goes-on {s = Wake l t} (rw s)
   step-ends (Wake l t) s = wake-ends l t s (eqb e 0) refl
   step-ends Gate s = gate-ends s (p .own .side) refl (doorOf (p .own .side) v) refl
+  step-ends (Spin n) s = looks-on (toSpin n) (rw s) room-here refl
   step-ends Epoch s = goes-on {s = Again (v % 2 ^ 32)} (rw s)
-  step-ends (Again n) s = again-ends n s room-here refl
+  step-ends (Again n) s = looks-on (GateAgain n) (rw s) room-here refl
   step-ends (GateAgain n) s = gate-again-ends n s (p .own .side) refl (doorOf (p .own .side) v) refl
   step-ends (Wait n) s = wait-ends n s (napOf e (eqb v n)) refl
   step-ends Asleep s = asleep s
@@ -269,7 +270,7 @@ turn-first side r p i o f true g = land (turn-taken g (ends-first p (valueOf r (
 pub given-first : (a : Ask) → Given a (answered a)
 unfolding createAnswer attachAnswer attachReply
 given-first (create r power slot notfull start) = created (checked-first (createChecks (length r) power slot))
-given-first (attach r side) = attached (checked-first (attachChecks r side))
+given-first (attach r side spins) = attached (checked-first (attachChecks r side spins))
 given-first (push p b t l) = push-first p b t l (ready Sender p) refl (p .closed) refl (b && not (p .own .notfull)) refl (leb l (payloadCapacity (p .own .slot))) refl
 given-first (pop p b l) = pop-first p b l (ready Recorder p) refl (p .closed) refl
 given-first (close side p) = close-first side p (ready side p) refl (p .closed) refl

@@ -120,7 +120,7 @@ module _ (P S v : ℕ) (on : Bool) where
     going-happens : (side : Side) (h : Happening) (w : World) → Typed h → Wills side h w → Real P S v on w → Awake P S v on counted side w → (notes : List Note) (n : ℕ)
         → Stint P S v on side notes (tickBy counted h w + n) w → Stint P S v on side notes n (happens h w)
     unfolding happens played playedLeaves settled
-    going-happens side (attaches other) w t m real y notes n go = absurd m
+    going-happens side (attaches other spins) w t m real y notes n go = absurd m
     going-happens side (plays (Turn mover) i o) w t m real y notes n go = turned w real side mover i o Fine (m .0) (m .1) y notes n go
     going-happens side (plays (Failing mover e) i o) w t m real y notes n go = turned w real side mover i o (Error e) (m .0) (m .1) y notes n go
     going-happens side (plays (Spurious mover) i o) w t m real y notes n go =

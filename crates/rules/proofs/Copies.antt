@@ -32,7 +32,7 @@ module _ (P S v : ℕ) (on : Bool) (power-ok : powerOk P ≡ true) (slot-ok : sl
   slot-in c = omega (arith, slot-within P power-ok S c, fixed .long)
 
   -- P2
-  pub copy-written : (own : Own) (c tag : ℕ) (payload : List ℕ) → own ≡ sizes P S v on Sender → c ≡ plus 64 v (length (t .sent)) → tag < 2 ^ 16 → length payload ≤ payloadCapacity S
+  pub copy-written : (own : Own) (c tag : ℕ) (payload : List ℕ) → own ≡ sizes P S v on Sender (own .spins) → c ≡ plus 64 v (length (t .sent)) → tag < 2 ^ 16 → length payload ≤ payloadCapacity S
       → HoldsAt P S v on (leavesOf r own (WriteSlot c) tag payload) (length (t .sent)) (record { tag = tag; body = payload })
   unfolding leavesOf
   copy-written own c tag payload o e g f =
@@ -43,11 +43,11 @@ module _ (P S v : ℕ) (on : Bool) (power-ok : powerOk P ≡ true) (slot-ok : sl
       }
 
   -- C2
-  module _ (own : Own) (c : ℕ) (o : own ≡ sizes P S v on Recorder) (e : c ≡ plus 64 v (length (t .delivered))) (n : Note) (holds : HoldsAt P S v on r (length (t .delivered)) n) where
+  module _ (own : Own) (c : ℕ) (o : own ≡ sizes P S v on Recorder (own .spins)) (e : c ≡ plus 64 v (length (t .delivered))) (n : Note) (holds : HoldsAt P S v on r (length (t .delivered)) n) where
     abbrev slot : List ℕ
     slot = slotOf r own c
 
-    slot-is : slot ≡ slotOf r (sizes P S v on Sender) (plus 64 v (length (t .delivered)))
+    slot-is : slot ≡ slotOf r (sizes P S v on Sender 0) (plus 64 v (length (t .delivered)))
     slot-is = rw (o, e)
 
     abbrev head : SlotHead

@@ -6,12 +6,12 @@ use native.Mathlib.Omega.{arith}
 use lib.Dec.{T}
 use Rattle.types.specs.declared.Door.{Door}
 use Rattle.types.specs.declared.Step.{Step}
-use Rattle.types.specs.declared.Step.the-variants.{Rest, Look, Copy, Publish, Check, Raise, Wake, Gate, Epoch, Again, GateAgain, Wait, Asleep, LastLook, CloseSet, CloseRaise, CloseWake, ShutSet, ShutRaiseNe, ShutWakeNe, ShutRaiseNf, ShutWakeNf}
+use Rattle.types.specs.declared.Step.the-variants.{Rest, Look, Copy, Publish, Check, Raise, Wake, Gate, Spin, Epoch, Again, GateAgain, Wait, Asleep, LastLook, CloseSet, CloseRaise, CloseWake, ShutSet, ShutRaiseNe, ShutWakeNe, ShutRaiseNf, ShutWakeNf}
 use Rattle.rules.specs.Take.{stanceOf}
 use Rattle.rules.specs.Stretch.{inCallAt}
 use Rattle.rules.specs.Phase.{Phase, phase}
 use Rattle.rules.proofs.Does.{less, ownAfter}
-use Rattle.rules.proofs.Leads.{Leads, idles, finds, blocks, gives-up, copies, spills, tells, stores, owes, passes, raises, wakes, enters, stops, reads, finds-again, stays, enters-again, stops-again, returns, ends, dreams, glances, glances-again, times-out, finds-last, finds-none, closes, closes-alone, close-raises, close-wakes, shuts, shut-raises, shut-wakes, shut-raises-again, shut-wakes-again, sleeps as falls-asleep}
+use Rattle.rules.proofs.Leads.{Onward, straight, around, asks, Leads, idles, finds, blocks, gives-up, copies, spills, tells, stores, owes, passes, raises, wakes, enters, stops, finds-spin, spins, reads, finds-again, stays, enters-again, stops-again, returns, ends, dreams, glances, glances-again, times-out, finds-last, finds-none, closes, closes-alone, close-raises, close-wakes, shuts, shut-raises, shut-wakes, shut-raises-again, shut-wakes-again, sleeps as falls-asleep}
 use Rattle.rules.proofs.Heard.{roomBy}
 
 -- two turns more for the one store that finds the other blocked
@@ -29,6 +29,7 @@ ahead (Check l g) x = 3 + extra (less x)
 ahead (Raise l g) x = 4 + extra x
 ahead (Wake l g) x = 3 + extra x
 ahead Gate x = 4 + extra x
+ahead (Spin n) x = 2 + extra x
 ahead Epoch x = 3 + extra x
 ahead (Again e) x = 2 + extra x
 ahead (GateAgain e) x = 4 + extra x
@@ -62,6 +63,7 @@ ahead-le (Check l t) x h g = omega arith
 ahead-le (Raise l t) x h g = omega arith
 ahead-le (Wake l t) x h g = omega arith
 ahead-le Gate x h g = omega arith
+ahead-le (Spin n) x h g = omega arith
 ahead-le Epoch x h g = omega arith
 ahead-le (Again e) x h g = omega arith
 ahead-le (GateAgain e) x h g = omega arith
@@ -112,83 +114,91 @@ passed-cost l t k zero h = omega arith
 passed-cost l t k (suc zero) h = absurd (h refl)
 passed-cost l t k (suc (suc x)) h = omega arith
 
+ahead-on : (n : ℕ) (t : Step) (x : ℕ) → Onward n t → ahead t x ≤ 3 + extra x
+ahead-on n t x straight = omega arith
+ahead-on n t x (around m) = omega arith
+
 -- with room, a turn of a call takes one off the cost, where a pop's copy fits
-pub fall : (k x : ℕ) (z : Door) (m r : Bool) (b : ℕ) (s next : Step) → Leads (suc k) x z m r b s next → Calls (phase s) → (s ≡ Rest → ⊥) → (s ≡ Asleep → ⊥) → (s ≡ Copy → next ≡ Rest → ⊥)
+pub fall : (k x : ℕ) (z : Door) (m r : Bool) (b a : ℕ) (s next : Step) → Leads (suc k) x z m r b a s next → Calls (phase s) → (s ≡ Rest → ⊥) → (s ≡ Asleep → ⊥) → (s ≡ Copy → next ≡ Rest → ⊥)
     → suc (cost next (ownRoom s (suc k)) (roomBy s x)) ≤ cost s (suc k) x
-fall k x z m r b s next idles c i j f = absurd (i refl)
-fall k x z m r b s next (finds h) c i j f = omega arith
-fall k x z m r b s next (blocks h q) c i j f = absurd (omega arith)
-fall k x z m r b s next (gives-up h q) c i j f = absurd (omega arith)
-fall k x z m r b s next copies c i j f = omega arith
-fall k x z m r b s next spills c i j f = absurd (f refl refl)
-fall k x z m r b s next (tells {l = l} {t = t} h) c i j f = stored-cost l t k x
-fall k x z m r b s next (stores {l = l} {t = t} h) c i j f = alone-cost l t k x
-fall k x z m r b s next (owes {l = l} {t = t} h) c i j f = owed-cost l t k x h
-fall k x z m r b s next (passes {l = l} {t = t} h) c i j f = passed-cost l t k x h
-fall k x z m r b s next raises c i j f = omega arith
-fall k x z m r b s next wakes c i j f = omega arith
-fall k x z m r b s next (enters h) c i j f = omega arith
-fall k x z m r b s next (stops h) c i j f = omega arith
-fall k x z m r b s next reads c i j f = omega arith
-fall k x z m r b s next (finds-again h) c i j f = omega arith
-fall k x z m r b s next (stays h) c i j f = absurd (omega arith)
-fall k x z m r b s next (enters-again h) c i j f = omega arith
-fall k x z m r b s next (stops-again h) c i j f = omega arith
-fall k x z m r b s next (falls-asleep h) c i j f = omega arith
-fall k x z m r b s next returns c i j f = omega arith
-fall k x z m r b s next ends c i j f = omega arith
-fall k x z m r b s next dreams c i j f = absurd (j refl)
-fall k x z m r b s next (glances h) c i j f = omega arith
-fall k x z m r b s next (glances-again h) c i j f = omega arith
-fall k x z m r b s next times-out c i j f = omega arith
-fall k x z m r b s next (finds-last h) c i j f = omega arith
-fall k x z m r b s next (finds-none h) c i j f = absurd (omega arith)
-fall k x z m r b s next (closes h) c i j f = absurd c
-fall k x z m r b s next (closes-alone h) c i j f = absurd c
-fall k x z m r b s next close-raises c i j f = absurd c
-fall k x z m r b s next close-wakes c i j f = absurd c
-fall k x z m r b s next shuts c i j f = absurd c
-fall k x z m r b s next shut-raises c i j f = absurd c
-fall k x z m r b s next shut-wakes c i j f = absurd c
-fall k x z m r b s next shut-raises-again c i j f = absurd c
-fall k x z m r b s next shut-wakes-again c i j f = absurd c
+fall k x z m r b a s next idles c i j f = absurd (i refl)
+fall k x z m r b a s next (finds h) c i j f = omega arith
+fall k x z m r b a s next (blocks h q) c i j f = absurd (omega arith)
+fall k x z m r b a s next (gives-up h q) c i j f = absurd (omega arith)
+fall k x z m r b a s next copies c i j f = omega arith
+fall k x z m r b a s next spills c i j f = absurd (f refl refl)
+fall k x z m r b a s next (tells {l = l} {t = t} h) c i j f = stored-cost l t k x
+fall k x z m r b a s next (stores {l = l} {t = t} h) c i j f = alone-cost l t k x
+fall k x z m r b a s next (owes {l = l} {t = t} h) c i j f = owed-cost l t k x h
+fall k x z m r b a s next (passes {l = l} {t = t} h) c i j f = passed-cost l t k x h
+fall k x z m r b a s next raises c i j f = omega arith
+fall k x z m r b a s next wakes c i j f = omega arith
+fall k x z m r b a s next (enters h o) c i j f = omega (arith, ahead-on _ next x o)
+fall k x z m r b a s next (finds-spin h) c i j f = omega arith
+fall k x z m r b a s next (spins h o) c i j f = absurd (omega arith)
+fall k x z m r b a s next (stops h) c i j f = omega arith
+fall k x z m r b a s next reads c i j f = omega arith
+fall k x z m r b a s next (finds-again h) c i j f = omega arith
+fall k x z m r b a s next (stays h) c i j f = absurd (omega arith)
+fall k x z m r b a s next (enters-again h) c i j f = omega arith
+fall k x z m r b a s next (stops-again h) c i j f = omega arith
+fall k x z m r b a s next (falls-asleep h) c i j f = omega arith
+fall k x z m r b a s next returns c i j f = omega arith
+fall k x z m r b a s next ends c i j f = omega arith
+fall k x z m r b a s next dreams c i j f = absurd (j refl)
+fall k x z m r b a s next (glances h) c i j f = omega arith
+fall k x z m r b a s next (glances-again h) c i j f = omega arith
+fall k x z m r b a s next times-out c i j f = omega arith
+fall k x z m r b a s next (finds-last h) c i j f = omega arith
+fall k x z m r b a s next (finds-none h) c i j f = absurd (omega arith)
+fall k x z m r b a s next (closes h) c i j f = absurd c
+fall k x z m r b a s next (closes-alone h) c i j f = absurd c
+fall k x z m r b a s next close-raises c i j f = absurd c
+fall k x z m r b a s next close-wakes c i j f = absurd c
+fall k x z m r b a s next shuts c i j f = absurd c
+fall k x z m r b a s next shut-raises c i j f = absurd c
+fall k x z m r b a s next shut-wakes c i j f = absurd c
+fall k x z m r b a s next shut-raises-again c i j f = absurd c
+fall k x z m r b a s next shut-wakes-again c i j f = absurd c
 
 -- a turn stays in the call or ends it
-pub calls-on : (k x : ℕ) (z : Door) (m r : Bool) (b : ℕ) (s next : Step) → Leads k x z m r b s next → Calls (phase s) → Calls (phase next)
-calls-on k x z m r b s next idles c = tt
-calls-on k x z m r b s next (finds h) c = tt
-calls-on k x z m r b s next (blocks h q) c = tt
-calls-on k x z m r b s next (gives-up h q) c = tt
-calls-on k x z m r b s next copies c = tt
-calls-on k x z m r b s next spills c = tt
-calls-on k x z m r b s next (tells h) c = tt
-calls-on k x z m r b s next (stores h) c = tt
-calls-on k x z m r b s next (owes h) c = tt
-calls-on k x z m r b s next (passes h) c = tt
-calls-on k x z m r b s next raises c = tt
-calls-on k x z m r b s next wakes c = tt
-calls-on k x z m r b s next (enters h) c = tt
-calls-on k x z m r b s next (stops h) c = tt
-calls-on k x z m r b s next reads c = tt
-calls-on k x z m r b s next (finds-again h) c = tt
-calls-on k x z m r b s next (stays h) c = tt
-calls-on k x z m r b s next (enters-again h) c = tt
-calls-on k x z m r b s next (stops-again h) c = tt
-calls-on k x z m r b s next (falls-asleep h) c = tt
-calls-on k x z m r b s next returns c = tt
-calls-on k x z m r b s next ends c = tt
-calls-on k x z m r b s next dreams c = tt
-calls-on k x z m r b s next (glances h) c = tt
-calls-on k x z m r b s next (glances-again h) c = tt
-calls-on k x z m r b s next times-out c = tt
-calls-on k x z m r b s next (finds-last h) c = tt
-calls-on k x z m r b s next (finds-none h) c = tt
-calls-on k x z m r b s next (closes h) c = absurd c
-calls-on k x z m r b s next (closes-alone h) c = tt
-calls-on k x z m r b s next close-raises c = absurd c
-calls-on k x z m r b s next close-wakes c = tt
-calls-on k x z m r b s next shuts c = absurd c
-calls-on k x z m r b s next shut-raises c = absurd c
-calls-on k x z m r b s next shut-wakes c = absurd c
-calls-on k x z m r b s next shut-raises-again c = absurd c
-calls-on k x z m r b s next shut-wakes-again c = tt
+pub calls-on : (k x : ℕ) (z : Door) (m r : Bool) (b a : ℕ) (s next : Step) → Leads k x z m r b a s next → Calls (phase s) → Calls (phase next)
+calls-on k x z m r b a s next idles c = tt
+calls-on k x z m r b a s next (finds h) c = tt
+calls-on k x z m r b a s next (blocks h q) c = tt
+calls-on k x z m r b a s next (gives-up h q) c = tt
+calls-on k x z m r b a s next copies c = tt
+calls-on k x z m r b a s next spills c = tt
+calls-on k x z m r b a s next (tells h) c = tt
+calls-on k x z m r b a s next (stores h) c = tt
+calls-on k x z m r b a s next (owes h) c = tt
+calls-on k x z m r b a s next (passes h) c = tt
+calls-on k x z m r b a s next raises c = tt
+calls-on k x z m r b a s next wakes c = tt
+calls-on k x z m r b a s next (enters h o) c = rw (asks _ _ o) tt
+calls-on k x z m r b a s next (finds-spin h) c = tt
+calls-on k x z m r b a s next (spins h o) c = rw (asks _ _ o) tt
+calls-on k x z m r b a s next (stops h) c = tt
+calls-on k x z m r b a s next reads c = tt
+calls-on k x z m r b a s next (finds-again h) c = tt
+calls-on k x z m r b a s next (stays h) c = tt
+calls-on k x z m r b a s next (enters-again h) c = tt
+calls-on k x z m r b a s next (stops-again h) c = tt
+calls-on k x z m r b a s next (falls-asleep h) c = tt
+calls-on k x z m r b a s next returns c = tt
+calls-on k x z m r b a s next ends c = tt
+calls-on k x z m r b a s next dreams c = tt
+calls-on k x z m r b a s next (glances h) c = tt
+calls-on k x z m r b a s next (glances-again h) c = tt
+calls-on k x z m r b a s next times-out c = tt
+calls-on k x z m r b a s next (finds-last h) c = tt
+calls-on k x z m r b a s next (finds-none h) c = tt
+calls-on k x z m r b a s next (closes h) c = absurd c
+calls-on k x z m r b a s next (closes-alone h) c = tt
+calls-on k x z m r b a s next close-raises c = absurd c
+calls-on k x z m r b a s next close-wakes c = tt
+calls-on k x z m r b a s next shuts c = absurd c
+calls-on k x z m r b a s next shut-raises c = absurd c
+calls-on k x z m r b a s next shut-wakes c = absurd c
+calls-on k x z m r b a s next shut-raises-again c = absurd c
+calls-on k x z m r b a s next shut-wakes-again c = tt

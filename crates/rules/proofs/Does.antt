@@ -1,7 +1,7 @@
 -- Which access a turn makes, with what that says of its party: one row a kind of access.
 use mathlib.Core.Path.{_≡_, refl}
 use mathlib.Core.Bool.{Bool, true, false}
-use Prim.Native.Nat.{ℕ, zero, suc}
+use Prim.Native.Nat.{ℕ, zero, suc, _≤_}
 use native.Mathlib.Omega.{arith}
 use Rattle.words.specs.Wrap.{next}
 use Rattle.types.specs.declared.Side.{Side}
@@ -10,7 +10,7 @@ use Rattle.types.specs.declared.Bell.{Bell}
 use Rattle.types.specs.declared.Bell.the-variants.{NotEmpty, NotFull}
 use Rattle.types.specs.declared.Mark.the-variants.{Shutdown}
 use Rattle.types.specs.declared.Step.{Step}
-use Rattle.types.specs.declared.Step.the-variants.{Rest, Look, Copy, Publish, Check, Raise, Wake, Gate, Epoch, Again, GateAgain, Wait, Asleep, LastLook, CloseSet, CloseRaise, CloseWake, ShutSet, ShutRaiseNe, ShutWakeNe, ShutRaiseNf, ShutWakeNf}
+use Rattle.types.specs.declared.Step.the-variants.{Rest, Look, Copy, Publish, Check, Raise, Wake, Gate, Spin, Epoch, Again, GateAgain, Wait, Asleep, LastLook, CloseSet, CloseRaise, CloseWake, ShutSet, ShutRaiseNe, ShutWakeNe, ShutRaiseNf, ShutWakeNf}
 use Rattle.types.specs.declared.Stance.{Stance}
 use Rattle.types.specs.declared.Stance.the-variants.{Resting, Sleeping, Copying, Publishing, Closing, Moving}
 use Rattle.types.specs.declared.Access.{Access}
@@ -24,6 +24,10 @@ use Rattle.rules.specs.Next.{one, all, slotAccess, nextAt}
 abbrev pub less : ℕ → ℕ
 less zero = zero
 less (suc x) = x
+
+pub under : (x y : ℕ) → suc x ≤ y → x ≤ less y
+under x zero h = absurd (omega arith)
+under x (suc y) h = omega arith
 
 abbrev pub ownAfter : Stance → ℕ → ℕ
 ownAfter Resting k = k
@@ -91,6 +95,7 @@ does side n (Check l t) = looks (plain Moving refl)
 does side n (Raise l t) = raises (plain Moving refl) (ringBell side)
 does side n (Wake l t) = wakes (plain Moving refl) (ringBell side) one
 does side n Gate = flags (plain Moving refl)
+does side n (Spin i) = looks (plain Moving refl)
 does side n Epoch = reads
 does side n (Again e) = looks (plain Moving refl)
 does side n (GateAgain e) = flags (plain Moving refl)

@@ -54,7 +54,7 @@ module _ (P S v : ℕ) (on : Bool) (power-ok : powerOk P ≡ true) (slot-ok : sl
     clear : stopAt side (leAt 4 (w .region) flagsAt) ≡ false
     blocking : partyIn w side .blocking ≡ true
     waits : inWait (partyIn w side .step) ≡ true
-    left : toSleep (bell side w) (partyIn w side .step) ≤ n
+    left : toSleep (bell side w) (partyIn w side .own .spins) (partyIn w side .step) ≤ n
 
   module _ (side : Side) (w : World) (n : ℕ) (d : Drowsy side n w) (payload lent : List ℕ) (g : takes w side payload lent Fine ≡ true) where
     abbrev p : Party
@@ -82,22 +82,22 @@ module _ (P S v : ℕ) (on : Bool) (power-ok : powerOk P ≡ true) (slot-ok : sl
         let at : value ≡ bell side w = ap (valueOf (w .region) (p .own)) (access-is P S v on power-ok slot-ok w (d .real) side payload lent Fine g ∙ ap (λ (u : Step). nextAt u side (p .counter)) q) in
         ap (λ (u : Step). stepAfter (moveAt u (p .own) (p .counter) (p .blocking) (p .length) value 0) u) q ∙ nap-step (p .own) value e ∙ ap (λ (u : ℕ). pick (eqb u e) Asleep Look) at
 
-    leads : Leads 0 (roomIn P S v on (other side) (w .trace)) Open true (rings side on) (bell side w) s next
+    leads : Leads 0 (roomIn P S v on (other side) (w .trace)) Open true (rings side on) (bell side w) (p .own .spins) s next
     leads =
-        subst (λ (m : Bool). Leads 0 (roomIn P S v on (other side) (w .trace)) Open m (rings side on) (bell side w) s next) (d .blocking)
-        (subst (λ (z : Door). Leads 0 (roomIn P S v on (other side) (w .trace)) z (p .blocking) (rings side on) (bell side w) s next) (open-door _ (stop-barred side (leAt 4 (w .region) flagsAt) ∙ d .clear))
-        (subst (λ (k : ℕ). Leads k (roomIn P S v on (other side) (w .trace)) (doorOf side (leAt 4 (w .region) flagsAt)) (p .blocking) (rings side on) (bell side w) s next) (d .room)
+        subst (λ (m : Bool). Leads 0 (roomIn P S v on (other side) (w .trace)) Open m (rings side on) (bell side w) (p .own .spins) s next) (d .blocking)
+        (subst (λ (z : Door). Leads 0 (roomIn P S v on (other side) (w .trace)) z (p .blocking) (rings side on) (bell side w) (p .own .spins) s next) (open-door _ (stop-barred side (leAt 4 (w .region) flagsAt) ∙ d .clear))
+        (subst (λ (k : ℕ). Leads k (roomIn P S v on (other side) (w .trace)) (doorOf side (leAt 4 (w .region) flagsAt)) (p .blocking) (rings side on) (bell side w) (p .own .spins) s next) (d .room)
         (leads-here P S v on power-ok slot-ok w (d .real) side payload lent Fine g)))
 
-    drowses : (inWait next ≡ true) × (toSleep (bell side w) next ≤ less (toSleep (bell side w) s))
-    drowses = drowse _ _ (bell side w) (d .real .sides side .bell-small) s next leads (d .waits) naps-here
+    drowses : (inWait next ≡ true) × (toSleep (bell side w) (p .own .spins) next ≤ less (toSleep (bell side w) (p .own .spins) s))
+    drowses = drowse _ _ (bell side w) (p .own .spins) (d .real .sides side .bell-small) s next leads (d .waits) naps-here
 
     bell-same : bell side after ≡ bell side w
     unfolding after-turn
     bell-same =
         bell-after (w .region) (p .own) (p .tag) payload (header-in P S v on (w .region) p payload (d .real .fixed)) (sleepBell side) a ∙ wait-bell side (p .counter) (sleepBell side) (bell side w) s (d .waits)
 
-    drowsy-after : Drowsy side (less (toSleep (bell side w) s)) after
+    drowsy-after : Drowsy side (less (toSleep (bell side w) (p .own .spins) s)) after
     drowsy-after =
         record {
           real = real-after P S v on power-ok slot-ok w (d .real) side payload lent Fine g;
@@ -116,11 +116,11 @@ module _ (P S v : ℕ) (on : Bool) (power-ok : powerOk P ≡ true) (slot-ok : sl
   less-by zero n h l = absurd (omega arith)
   less-by (suc x) n h l = (omega arith, omega arith)
 
-  not-slept : (b : ℕ) (s : Step) → inWait s ≡ true → moves (stanceOf s) ≡ true → 0 < toSleep b s
-  not-slept b s w move = by (toSleep b s) refl
+  not-slept : (b a : ℕ) (s : Step) → inWait s ≡ true → moves (stanceOf s) ≡ true → 0 < toSleep b a s
+  not-slept b a s w move = by (toSleep b a s) refl
     where
-      by : (x : ℕ) → toSleep b s ≡ x → 0 < toSleep b s
-      by zero e = absurd (let q : s ≡ Asleep = near-sleep b s .slept w (omega arith) in let u : false ≡ true = sym (ap (λ (x : Step). moves (stanceOf x)) q) ∙ move in let z : _≡_ {A = ℕ} 0 1 = cc in omega arith)
+      by : (x : ℕ) → toSleep b a s ≡ x → 0 < toSleep b a s
+      by zero e = absurd (let q : s ≡ Asleep = near-sleep b a s .slept w (omega arith) in let u : false ≡ true = sym (ap (λ (x : Step). moves (stanceOf x)) q) ∙ move in let z : _≡_ {A = ℕ} 0 1 = cc in omega arith)
       by (suc x) e = omega arith
 
   one-turn : (side : Side) (w : World) (n : ℕ) → Drowsy side n w → (payload lent : List ℕ) → moves (stanceOf (partyIn w side .step)) ≡ true
@@ -131,10 +131,10 @@ module _ (P S v : ℕ) (on : Bool) (power-ok : powerOk P ≡ true) (slot-ok : sl
           → Drowsy side (n - pick (b && moves (stanceOf (partyIn w side .step))) 1 0) (turnWorld w side payload lent Fine) × (pick (b && moves (stanceOf (partyIn w side .step))) 1 0 ≤ n)
       by false g = (subst (Drowsy side (n - 0)) (sym (turn-refused w side payload lent Fine g)) (fewer side n (n - 0) w (omega arith) d), omega arith)
       by true g =
-          let l = less-by (toSleep (bell side w) (partyIn w side .step)) n (not-slept (bell side w) (partyIn w side .step) (d .waits) move) (d .left) in
+          let l = less-by (toSleep (bell side w) (partyIn w side .own .spins) (partyIn w side .step)) n (not-slept (bell side w) (partyIn w side .own .spins) (partyIn w side .step) (d .waits) move) (d .left) in
           let u = turnWorld w side payload lent Fine in
           rw move
-          (fewer side _ (n - 1) u (l .0) (subst (Drowsy side (less (toSleep (bell side w) (partyIn w side .step)))) (sym (turn-is-after P S v on power-ok slot-ok w (d .real) side payload lent Fine g)) (drowsy-after side w n d payload lent g)), l .1)
+          (fewer side _ (n - 1) u (l .0) (subst (Drowsy side (less (toSleep (bell side w) (partyIn w side .own .spins) (partyIn w side .step)))) (sym (turn-is-after P S v on power-ok slot-ok w (d .real) side payload lent Fine g)) (drowsy-after side w n d payload lent g)), l .1)
 
   abbrev Slept : Side → List Happening → ℕ → World → Type 0
   Slept side ms n w = (first : List Happening) × ((rest : List Happening) × ((ms ≡ first ++ rest) × ((ticks first w ≤ n) × (partyIn (run first w) side .step ≡ Asleep))))
@@ -144,8 +144,8 @@ module _ (P S v : ℕ) (on : Bool) (power-ok : powerOk P ≡ true) (slot-ok : sl
 
   sleeping-run : (side : Side) (ms : List Happening) (w : World) → Turns side ms → (n : ℕ) → Drowsy side n w → n ≤ ticks ms w → Slept side ms n w
   unfolding run happens played playedLeaves settled
-  sleeping-run side [] w m n d l = ([], ([], (refl, (omega arith, near-sleep (bell side w) (partyIn w side .step) .slept (d .waits) (omega (arith, d .left))))))
-  sleeping-run side (attaches mover ∷ ms) w m n d l = absurd m
+  sleeping-run side [] w m n d l = ([], ([], (refl, (omega arith, near-sleep (bell side w) (partyIn w side .own .spins) (partyIn w side .step) .slept (d .waits) (omega (arith, d .left))))))
+  sleeping-run side (attaches mover spins ∷ ms) w m n d l = absurd m
   sleeping-run side (plays (Turn mover) i o ∷ ms) w m n d l =
       subst (λ (τ : Side). n ≤ ticks (plays (Turn τ) i o ∷ ms) w → Slept side (plays (Turn τ) i o ∷ ms) n w) (sym (m .0))
       (λ l. by (partyIn w side .step) refl (kind (partyIn w side .step))
@@ -167,9 +167,9 @@ module _ (P S v : ℕ) (on : Bool) (power-ok : powerOk P ≡ true) (slot-ok : sl
   sleeping-run side (plays (Close mover) i o ∷ ms) w m n d l = absurd m
   sleeping-run side (plays (Shutdown mover) i o ∷ ms) w m n d l = absurd m
 
--- from its look, six
-from-look : (b : ℕ) (s : Step) → s ≡ Look → toSleep b s ≡ 6
-from-look b s e = ap (toSleep b) e
+-- from its look, six and the spins
+from-look : (b a : ℕ) (s : Step) → s ≡ Look → toSleep b a s ≡ 6 + a
+from-look b a s e = ap (toSleep b a) e
 
 clear-flags : (a b : Bool) → a ≡ false → b ≡ false → (a || b) ≡ false
 clear-flags a b h g = rw (h, g)
@@ -182,25 +182,28 @@ module _ (r : List ℕ) (P S : ℕ) (on : Bool) (v : ℕ) (fresh : Fresh r P S o
       let power-ok = power-fits r P S on v fresh in
       let slot-ok = slot-fits r P S on v fresh in
       let s = partyIn w side .step in
-      let start : Drowsy P S v on power-ok slot-ok side (toSleep b s) w =
+      let a = partyIn w side .own .spins in
+      let real = real-reached r P S on v fresh hs t in
+      let most = near-sleep b a s .nine (real .sides side .seat .spun) in
+      let start : Drowsy P S v on power-ok slot-ok side (toSleep b a s) w =
       record {
-        real = real-reached r P S on v fresh hs t;
+        real = real;
         room = sym (room-is r P S on v fresh side hs t) ∙ none;
         clear = clear-flags _ _ up other-up;
         blocking = mode;
         waits = waits;
         left = omega arith;
       } in
-      let done = sleeping-run P S v on power-ok slot-ok side ms w turns (toSleep b s) start (omega (arith, near-sleep b s .nine)) in (
+      let done = sleeping-run P S v on power-ok slot-ok side ms w turns (toSleep b a s) start (omega (arith, most)) in (
         done .0,
         (
           done .1 .0,
           (
             done .1 .1 .0,
             (
-              omega (arith, done .1 .1 .1 .0, near-sleep b s .nine),
+              omega (arith, done .1 .1 .1 .0, most),
               (
-                λ e. omega (arith, done .1 .1 .1 .0, from-look b s e),
+                λ e. omega (arith, done .1 .1 .1 .0, from-look b a s e),
                 subst (λ (u : World). partyIn u side .step ≡ Asleep) (sym (run-parts hs (done .0) (opened (created r P S on v)))) (done .1 .1 .1 .1),
               ),
             ),

@@ -10,7 +10,7 @@ use Rattle.types.specs.declared.Side.the-variants.{Sender, Recorder}
 use Rattle.types.specs.declared.Bell.the-variants.{NotEmpty, NotFull}
 use Rattle.types.specs.declared.Party.{Party}
 use Rattle.types.specs.declared.Step.{Step}
-use Rattle.types.specs.declared.Step.the-variants.{Rest, Look, Copy, Publish, Check, Raise, Wake, Gate, Epoch, Again, GateAgain, Wait, Asleep, LastLook, CloseSet, CloseRaise, CloseWake, ShutSet, ShutRaiseNe, ShutWakeNe, ShutRaiseNf, ShutWakeNf}
+use Rattle.types.specs.declared.Step.the-variants.{Rest, Look, Copy, Publish, Check, Raise, Wake, Gate, Spin, Epoch, Again, GateAgain, Wait, Asleep, LastLook, CloseSet, CloseRaise, CloseWake, ShutSet, ShutRaiseNe, ShutWakeNe, ShutRaiseNf, ShutWakeNf}
 use Rattle.types.specs.declared.Access.{Access}
 use Rattle.rules.specs.Sides.{other}
 use Rattle.rules.specs.Take.{stanceOf}
@@ -45,6 +45,7 @@ module _ (p : Party) (payload buffer : List ℕ) (t : Trace) where
   rung-other Recorder (Raise l g) = refl
   rung-other side (Wake l g) = refl
   rung-other side Gate = refl
+  rung-other side (Spin n) = refl
   rung-other Sender Epoch = refl
   rung-other Recorder Epoch = refl
   rung-other side (Again e) = refl
@@ -74,6 +75,7 @@ module _ (p : Party) (payload buffer : List ℕ) (t : Trace) where
   rung-own side (Raise l g) h = absurd (let z : _≡_ {A = ℕ} 0 1 = cc in omega arith)
   rung-own side (Wake l g) h = absurd (let z : _≡_ {A = ℕ} 0 1 = cc in omega arith)
   rung-own side Gate h = absurd (let z : _≡_ {A = ℕ} 0 1 = cc in omega arith)
+  rung-own side (Spin n) h = absurd (let z : _≡_ {A = ℕ} 0 1 = cc in omega arith)
   rung-own side Epoch h = absurd (let z : _≡_ {A = ℕ} 0 1 = cc in omega arith)
   rung-own side (Again e) h = refl
   rung-own side (GateAgain e) h = refl

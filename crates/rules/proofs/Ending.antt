@@ -5,6 +5,8 @@ use mathlib.Core.List.{List, [], _∷_, _++_}
 use mathlib.Core.Logic.{_⊎_, inl, inr}
 use Prim.Native.Nat.{ℕ, zero, suc, _+_, _-_, _<_, _≤_}
 use native.Mathlib.Omega.{arith}
+use borrow.Author.Tests.{leb-true, leb-false}
+use lib.Dec.{leb}
 use Rattle.words.specs.Le.{leAt}
 use Rattle.types.specs.Pick.{pick}
 use Rattle.types.specs.declared.Side.{Side}
@@ -32,7 +34,7 @@ use Rattle.rules.specs.Bench.{settled, played, playedLeaves}
 use Rattle.rules.specs.Run.{World, Happening, attaches, plays, partyIn, takes, happens, run, opened}
 use Rattle.rules.specs.Premises.{Typed, AllTyped, AllFair}
 use Rattle.rules.specs.Stretch.{moves, calling, countsBy, tickBy, ticksBy, OwnDoing, AllOwn}
-use Rattle.rules.specs.Claims.{Fresh, reached, Stopped, AtRest, EndsTicks, Ends}
+use Rattle.rules.specs.Claims.{stopTurns, Follow, Fresh, reached, Stopped, AtRest, EndsTicks, Ends, SpinsWithin}
 use Rattle.rules.proofs.Views.{Kind, rests, dreams, acts, kind}
 use Rattle.rules.proofs.After.{flagsBy}
 use Rattle.rules.proofs.Kept.{flag-up}
@@ -73,6 +75,21 @@ one-less s k then i h n l = by (toRest s k) refl h l
     by : (m : ℕ) → toRest s k ≡ m → then ≤ less m → m ≤ n → (then ≤ n - 1) × (1 ≤ n)
     by zero e h l = absurd (i (near s k .rested (omega arith)))
     by (suc m) e h l = (omega arith, omega arith)
+
+-- the number is at least seven, and five and the spins that follow
+stop-seven : (n : ℕ) → 7 ≤ stopTurns n
+stop-seven n = by (leb n 2) refl
+  where
+    by : (few : Bool) → leb n 2 ≡ few → 7 ≤ pick few 7 (n + 5)
+    by true e = omega arith
+    by false e = omega (arith, leb-false n 2 e)
+
+stop-spins : (n m : ℕ) → m ≤ n → m + 5 ≤ stopTurns n
+stop-spins n m h = by (leb n 2) refl
+  where
+    by : (few : Bool) → leb n 2 ≡ few → m + 5 ≤ pick few 7 (n + 5)
+    by true e = omega (arith, leb-true n 2 e)
+    by false e = omega arith
 
 idle-rest : (s : Step) (k : ℕ) → Idle s → toRest s k ≤ 6
 idle-rest s k at-rest = omega arith
@@ -139,7 +156,7 @@ module _ (P S v : ℕ) (on : Bool) where
         moves-nearer : (s ≡ Asleep → ⊥) → Then side n 1 after
         moves-nearer j =
             let leads = leads-here P S v on power-ok slot-ok w real side payload lent fault g in
-            let fell = one-less s k (toRest next (ownRoom s k)) i (nearer _ _ _ _ _ _ s next leads (stop-barred side (leAt 4 (w .region) flagsAt) ∙ d .up) j) n (d .left) in
+            let fell = one-less s k (toRest next (ownRoom s k)) i (nearer _ _ _ _ _ _ _ s next leads (stop-barred side (leAt 4 (w .region) flagsAt) ∙ d .up) j) n (d .left) in
             (still-ending (n - 1) (fell .0), fell .1)
 
         sleeps-on : s ≡ Asleep → Then side n 0 after
@@ -172,7 +189,7 @@ module _ (P S v : ℕ) (on : Bool) where
     ending-happens : (side : Side) (h : Happening) (w : World) → Typed h → OwnDoing side h → Real P S v on w → Rouses counted side w → (n : ℕ) → Ending side n w → (partyIn w side .step ≡ Rest → ⊥)
         → Then side n (tickBy counted h w) (happens h w)
     unfolding happens played playedLeaves settled
-    ending-happens side (attaches mover) w t m real y n d i = absurd m
+    ending-happens side (attaches mover spins) w t m real y n d i = absurd m
     ending-happens side (plays (Turn mover) b o) w t m real y n d i = turned w real side mover b o Fine m y n d i
     ending-happens side (plays (Failing mover e) b o) w t m real y n d i = turned w real side mover b o (Error e) m y n d i
     ending-happens side (plays (Spurious mover) b o) w t m real y n d i = rw m (called w side (spuriousSpec side (partyIn w side) .party) (spurious-changes side (partyIn w side)) i n d)
@@ -212,24 +229,28 @@ module _ (r : List ℕ) (P S : ℕ) (on : Bool) (v : ℕ) (fresh : Fresh r P S o
   ends-by : (counted : Stance → Bool) → Count counted → (side : Side) (Keeps : List Happening → World → Type 0)
       → ((h : Happening) (hs : List Happening) (w : World) → Typed h → Real P S v on w → Keeps (h ∷ hs) w → Keeps hs (happens h w))
       → ((hs : List Happening) (w : World) (n : ℕ) → Keeps hs w → Ending P S v on side n w → Rouses P S v on counted side w)
-      → (hs ms : List Happening) → AllTyped (hs ++ ms) → Stopped r P S on v side hs → AllOwn side ms → Keeps ms (reached r P S on v hs) → 7 ≤ ticksBy counted ms (reached r P S on v hs) → AtRest r P S on v counted side hs ms
-  ends-by counted count side Keeps goes rouses hs ms t stop own y long =
+      → (hs ms : List Happening) (n : ℕ) → AllTyped (hs ++ ms) → Stopped r P S on v side hs → Follow side n (reached r P S on v hs) → AllOwn side ms → Keeps ms (reached r P S on v hs) → stopTurns n ≤ ticksBy counted ms (reached r P S on v hs) → AtRest r P S on v counted side n hs ms
+  ends-by counted count side Keeps goes rouses hs ms n t stop few own y long =
       let w = reached r P S on v hs in
       let typed = typed-parts hs ms t in
-      let start : Ending P S v on side 7 w = record { quiet = quiet-duty (other side) (partyIn w (other side) .step) (stop .0); up = stop .1; left = near (partyIn w side .step) (roomIn P S v on side (w .trace)) .seven } in
-      let done = ending-run P S v on (power-fits r P S on v fresh) (slot-fits r P S on v fresh) counted count side Keeps goes rouses ms w (typed .1) own (real-reached r P S on v fresh hs (typed .0)) y 7 start long in
+      let start : Ending P S v on side (stopTurns n) w = record { quiet = quiet-duty (other side) (partyIn w (other side) .step) (stop .0); up = stop .1; left = near (partyIn w side .step) (roomIn P S v on side (w .trace)) .most (stopTurns n) (stop-seven n) (λ m e. stop-spins n m (few m e)) } in
+      let done = ending-run P S v on (power-fits r P S on v fresh) (slot-fits r P S on v fresh) counted count side Keeps goes rouses ms w (typed .1) own (real-reached r P S on v fresh hs (typed .0)) y (stopTurns n) start long in
       (done .0, (done .1 .0, (done .1 .1 .0, (done .1 .1 .1 .0, subst (λ (u : World). partyIn u side .step ≡ Rest) (sym (run-parts hs (done .0) (opened (created r P S on v)))) (done .1 .1 .1 .1)))))
 
   -- document 01's turns: nothing is asked of wakes and bells
   pub ends-ticks : (side : Side) → EndsTicks r P S on v side
-  ends-ticks side hs ms t stop own long = ends-by moves by-moves side (λ ms w. Unit) (λ h hs w t real y. tt) (λ hs w n y d e. absurd (let z : _≡_ {A = ℕ} 0 1 = cc in omega arith)) hs ms t stop own tt long
+  ends-ticks side hs ms n t stop few own long = ends-by moves by-moves side (λ ms w. Unit) (λ h hs w t real y. tt) (λ hs w n y d e. absurd (let z : _≡_ {A = ℕ} 0 1 = cc in omega arith)) hs ms n t stop few own tt long
 
   -- and those asleep with them
   pub ends : (side : Side) → Ends r P S on v side
-  ends side hs ms t f stop own long =
+  ends side hs ms n t f stop few own long =
       let typed = typed-parts hs ms t in
       let fair = fair-parts side hs ms (opened (created r P S on v)) f in
       ends-by calling by-calling side (λ ms w. AllFair side ms w × Ready P S v on side w)
       (λ h hs w t real y. (y .0 .1, ready-happens P S v on (power-fits r P S on v fresh) (slot-fits r P S on v fresh) side h w t (y .0 .0) real (y .1)))
       (λ hs w n y d c e. dozes P S v on (rings (other side) on) side (other side) w (d .quiet) e (y .1) (stop-cause (roomIn P S v on side (w .trace)) _ (d .up)))
-      hs ms t stop own (fair .1, ready-reached r P S on v fresh side hs (typed .0) (fair .0)) long
+      hs ms n t stop few own (fair .1, ready-reached r P S on v fresh side hs (typed .0) (fair .0)) long
+
+  -- and how many spins may follow
+  pub spins-within : (side : Side) → SpinsWithin r P S on v side
+  spins-within side hs n t e = real-reached r P S on v fresh hs t .sides side .seat .spun n e

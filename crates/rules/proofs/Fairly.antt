@@ -114,37 +114,38 @@ module _ (P S v : ℕ) (on : Bool) where
   stop-kept Recorder Sender f h = ap₂ _||_ (mark-set (attachMark Sender) f h ShutMark) (mark-set (attachMark Sender) f h (closeMark Sender))
   stop-kept Recorder Recorder f h = ap₂ _||_ (mark-set (attachMark Recorder) f h ShutMark) (mark-set (attachMark Recorder) f h (closeMark Sender))
 
-  module _ (power-ok : powerOk P ≡ true) (slot-ok : slotOk S ≡ true) (w : World) (real : Real P S v on w) (side : Side) where
+  module _ (power-ok : powerOk P ≡ true) (slot-ok : slotOk S ≡ true) (w : World) (real : Real P S v on w) (side : Side) (spins : ℕ) where
     abbrev joined : World
-    joined = attachWorld P S v on power-ok slot-ok w real side
+    joined = attachWorld P S v on power-ok slot-ok w real side spins
 
     pub attached-own : (h : Bool) → ReadyAt P S v on h side (other side) w → ReadyAt P S v on h side (other side) joined
     unfolding attachLeaves attachReply
-    attached-own h y = by (eqb (number (attachAnswer (w .region) side)) 0) refl h y
+    attached-own h y = by (eqb (number (attachAnswer (w .region) side spins)) 0) refl h y
       where
-        by : (b : Bool) → eqb (number (attachAnswer (w .region) side)) 0 ≡ b → (h : Bool) → ReadyAt P S v on h side (other side) w → ReadyAt P S v on h side (other side) joined
+        by : (b : Bool) → eqb (number (attachAnswer (w .region) side spins)) 0 ≡ b → (h : Bool) → ReadyAt P S v on h side (other side) w → ReadyAt P S v on h side (other side) joined
         by false e h y = rw e y
-        by true e true y = rw (e, seat-one side (w .bench) (attached (w .region) side)) tt
-        by true e false y = rw (e, seat-one side (w .bench) (attached (w .region) side)) tt
+        by true e true y = rw (e, seat-one side (w .bench) (attached (w .region) side spins)) tt
+        by true e false y = rw (e, seat-one side (w .bench) (attached (w .region) side spins)) tt
 
     pub attached-other : (h : Bool) → ReadyAt P S v on h (other side) side w → ReadyAt P S v on h (other side) side joined
     unfolding attachLeaves attachReply
-    attached-other h y = by (eqb (number (attachAnswer (w .region) side)) 0) refl h y
+    attached-other h y = by (eqb (number (attachAnswer (w .region) side spins)) 0) refl h y
       where
-        empty : eqb (number (attachAnswer (w .region) side)) 0 ≡ true → partyIn w side .step ≡ Rest
-        empty e = (real .sides side .seat .empty (sym (real .sides side .seat .attached-bit) ∙ bit-clear (w .region) side e)) .0
+        empty : eqb (number (attachAnswer (w .region) side spins)) 0 ≡ true → partyIn w side .step ≡ Rest
+        empty e = (real .sides side .seat .empty (sym (real .sides side .seat .attached-bit) ∙ bit-clear (w .region) side spins e)) .0
 
         flags-now : leAt 4 (putLe 4 (w .region) flagsAt (setBit (worth (attachMark side)) (leAt 4 (w .region) flagsAt))) flagsAt ≡ setBit (worth (attachMark side)) (leAt 4 (w .region) flagsAt)
         flags-now = attach-flags P S v on power-ok slot-ok w real side
 
-        by : (b : Bool) → eqb (number (attachAnswer (w .region) side)) 0 ≡ b → (h : Bool) → ReadyAt P S v on h (other side) side w → ReadyAt P S v on h (other side) side joined
+        by : (b : Bool) → eqb (number (attachAnswer (w .region) side spins)) 0 ≡ b → (h : Bool) → ReadyAt P S v on h (other side) side w → ReadyAt P S v on h (other side) side joined
         by false e h y = rw e y
         by true e true y =
-            rw (e, seat-one side (w .bench) (attached (w .region) side), seat-two side (w .bench) (attached (w .region) side), flags-now, stop-kept (other side) side (leAt 4 (w .region) flagsAt) (real .fixed .small))
+            rw (e, seat-one side (w .bench) (attached (w .region) side spins), seat-two side (w .bench) (attached (w .region) side spins), flags-now, stop-kept (other side) side (leAt 4 (w .region) flagsAt) (real .fixed .small))
             (rw (ap (duty side) (empty e)) at y)
-        by true e false y = rw (e, seat-two side (w .bench) (attached (w .region) side)) y
+        by true e false y = rw (e, seat-two side (w .bench) (attached (w .region) side spins)) y
 
-    -- a turn, taken or refused
+  -- a turn, taken or refused
+  module _ (power-ok : powerOk P ≡ true) (slot-ok : slotOk S ≡ true) (w : World) (real : Real P S v on w) (side : Side) where
     lands-here : (payload lent : List ℕ) (fault : Fault) (g : takes w side payload lent fault ≡ true)
         → (hears (other side) (wokeOf (nextSpec (partyIn w side)) 0) ≡ true → partyIn w (other side) .step ≡ Asleep → errorOf fault ≡ 0)
         → wakesAt side (partyIn w side .step) ≡ true → partyIn w (other side) .step ≡ Asleep → errorOf fault ≡ 0
@@ -188,15 +189,15 @@ module _ (P S v : ℕ) (on : Bool) where
     turned-ready w real Recorder Sender payload lent fault f y = turned-other power-ok slot-ok w real Sender payload lent fault f true refl y
     turned-ready w real Recorder Recorder payload lent fault f y = turned-own power-ok slot-ok w real Recorder payload lent fault f true y
 
-    attached-ready : (w : World) (real : Real P S v on w) (σ side : Side) → Ready σ w → Ready σ (attachWorld P S v on power-ok slot-ok w real side)
-    attached-ready w real Sender Sender y = attached-own power-ok slot-ok w real Sender (rings Recorder on) y
-    attached-ready w real Sender Recorder y = attached-other power-ok slot-ok w real Recorder (rings Recorder on) y
-    attached-ready w real Recorder Sender y = attached-other power-ok slot-ok w real Sender true y
-    attached-ready w real Recorder Recorder y = attached-own power-ok slot-ok w real Recorder true y
+    attached-ready : (w : World) (real : Real P S v on w) (σ side : Side) (spins : ℕ) → Ready σ w → Ready σ (attachWorld P S v on power-ok slot-ok w real side spins)
+    attached-ready w real Sender Sender spins y = attached-own power-ok slot-ok w real Sender spins (rings Recorder on) y
+    attached-ready w real Sender Recorder spins y = attached-other power-ok slot-ok w real Recorder spins (rings Recorder on) y
+    attached-ready w real Recorder Sender spins y = attached-other power-ok slot-ok w real Sender spins true y
+    attached-ready w real Recorder Recorder spins y = attached-own power-ok slot-ok w real Recorder spins true y
 
     pub ready-happens : (σ : Side) (h : Happening) (w : World) → Typed h → Fair σ h w → Real P S v on w → Ready σ w → Ready σ (happens h w)
     unfolding happens played playedLeaves settled
-    ready-happens σ (attaches side) w t f real y = attached-ready w real σ side y
+    ready-happens σ (attaches side spins) w t f real y = attached-ready w real σ side spins y
     ready-happens σ (plays (Turn side) i o) w t f real y = turned-ready w real σ side i o Fine f y
     ready-happens σ (plays (Failing side e) i o) w t f real y = turned-ready w real σ side i o (Error e) f y
     ready-happens σ (plays (Spurious side) i o) w t f real y = called-ready w real σ side (spuriousSpec side (partyIn w side) .party) (spurious-changes side (partyIn w side)) y

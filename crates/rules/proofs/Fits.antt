@@ -37,7 +37,7 @@ module _ (P S v : ℕ) (on : Bool) (power-ok : powerOk P ≡ true) (slot-ok : sl
       ∙ ap (λ (x : List Note). x ++ drop (length (t .delivered)) (t .sent)) (sym (real .queue .order))
       ∙ ap (λ (x : List Note). t .delivered ++ x) (drop-cons (t .sent) (length (t .delivered)) blank (omega arith))
 
-  good-fit : (own : Own) (c named : ℕ) → own ≡ sizes P S v on Recorder → c ≡ plus 64 v (length (t .delivered)) → 0 < roomIn P S v on Recorder t
+  good-fit : (own : Own) (c named : ℕ) → own ≡ sizes P S v on Recorder (own .spins) → c ≡ plus 64 v (length (t .delivered)) → 0 < roomIn P S v on Recorder t
       → ((n : Note) (rest : List Note) → t .sent ≡ t .delivered ++ (n ∷ rest) → length (n .body) ≤ named)
       → fitOf (headOf (valueOf (w .region) own (slotAccess Recorder c))) (payloadCapacity (own .slot)) named ≡ Fits
   good-fit own c named o e h big =
@@ -46,7 +46,7 @@ module _ (P S v : ℕ) (on : Bool) (power-ok : powerOk P ≡ true) (slot-ok : sl
       rw (head-is P S v on power-ok slot-ok (w .region) (real .fixed) t own c o e n holds, o)
       (fit-is (noteHead n) (payloadCapacity S) named (holds .body-fits) (omega arith) refl (big n _ (first-waits h)))
 
-  pub no-spill : (σ : Side) (val : ℕ) → partyIn w σ .own ≡ sizes P S v on σ → partyIn w σ .counter ≡ plus 64 v (countOf σ t)
+  pub no-spill : (σ : Side) (val : ℕ) → partyIn w σ .own ≡ sizes P S v on σ (partyIn w σ .own .spins) → partyIn w σ .counter ≡ plus 64 v (countOf σ t)
       → val ≡ valueOf (w .region) (partyIn w σ .own) (slotAccess σ (partyIn w σ .counter)) → 0 < roomIn P S v on σ t → partyIn w σ .step ≡ Copy → Big σ w
       → stepAfter (copyMove (partyIn w σ .own) (partyIn w σ .length) val) Copy ≡ Rest → ⊥
   no-spill Sender val o e q h at big rest =

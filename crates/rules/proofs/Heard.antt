@@ -7,14 +7,14 @@ use Rattle.types.specs.declared.Side.{Side}
 use Rattle.types.specs.declared.Side.the-variants.{Sender, Recorder}
 use Rattle.types.specs.declared.Door.{Door}
 use Rattle.types.specs.declared.Step.{Step}
-use Rattle.types.specs.declared.Step.the-variants.{Rest, Look, Copy, Publish, Check, Raise, Wake, Gate, Epoch, Again, GateAgain, Wait, Asleep, LastLook, CloseSet, CloseRaise, CloseWake, ShutSet, ShutRaiseNe, ShutWakeNe, ShutRaiseNf, ShutWakeNf}
+use Rattle.types.specs.declared.Step.the-variants.{Rest, Look, Copy, Publish, Check, Raise, Wake, Gate, Spin, Epoch, Again, GateAgain, Wait, Asleep, LastLook, CloseSet, CloseRaise, CloseWake, ShutSet, ShutRaiseNe, ShutWakeNe, ShutRaiseNf, ShutWakeNf}
 use Rattle.types.specs.declared.Access.{Access}
 use Rattle.types.specs.declared.Access.the-variants.{None, LoadCounter, LoadFlags, LoadBell, WriteSlot, ReadSlot, StoreCounter, RaiseBell, SetFlag, WaitBell, WakeBell}
 use Rattle.rules.specs.Next.{nextAt}
 use Rattle.rules.specs.Phase.{Phase, resting, looking, copying, publishing, telling, asking, armed, poised, waits, sleeps, glancing, leaving}
 use Rattle.rules.specs.Take.{stanceOf}
 use Rattle.rules.proofs.Does.{otherAfter}
-use Rattle.rules.proofs.Leads.{Leads, idles, finds, blocks, gives-up, copies, spills, tells, stores, owes, passes, raises, wakes, enters, stops, reads, finds-again, stays, enters-again, stops-again, returns, ends, dreams, glances, glances-again, times-out, finds-last, finds-none, closes, closes-alone, close-raises, close-wakes, shuts, shut-raises, shut-wakes, shut-raises-again, shut-wakes-again, sleeps as falls-asleep}
+use Rattle.rules.proofs.Leads.{Onward, straight, around, Leads, idles, finds, blocks, gives-up, copies, spills, tells, stores, owes, passes, raises, wakes, enters, stops, finds-spin, spins, reads, finds-again, stays, enters-again, stops-again, returns, ends, dreams, glances, glances-again, times-out, finds-last, finds-none, closes, closes-alone, close-raises, close-wakes, shuts, shut-raises, shut-wakes, shut-raises-again, shut-wakes-again, sleeps as falls-asleep}
 
 -- a party with room, or that should stop, has cause not to sleep
 abbrev pub Cause : (room : ℕ) → (stop : Bool) → Type 0
@@ -40,6 +40,7 @@ duty side (Check l g) = checking
 duty side (Raise l g) = raising
 duty side (Wake l g) = waking
 duty side Gate = none
+duty side (Spin n) = none
 duty side Epoch = none
 duty side (Again e) = none
 duty side (GateAgain e) = none
@@ -54,6 +55,10 @@ duty side (ShutRaiseNe c) = raising
 duty side (ShutWakeNe c) = ifSender side waking raising
 duty side (ShutRaiseNf c f) = ifSender side none raising
 duty side (ShutWakeNf c f) = ifSender side none waking
+
+owes-none : (side : Side) (n : ℕ) (t : Step) → Onward n t → duty side t ≡ none
+owes-none side n t straight = refl
+owes-none side n t (around m) = refl
 
 -- the duty helps one with room k; a wake alone helps only a sleeper
 abbrev pub Due : (asleep : Bool) → Duty → (room : ℕ) → Type 0
@@ -181,6 +186,7 @@ rungBy side (Check l g) n = n
 rungBy side (Raise l g) n = n + 1
 rungBy side (Wake l g) n = n
 rungBy side Gate n = n
+rungBy side (Spin i) n = n
 rungBy side Epoch n = n
 rungBy side (Again e) n = n
 rungBy side (GateAgain e) n = n
@@ -208,6 +214,7 @@ wakesAt side (Check l g) = false
 wakesAt side (Raise l g) = false
 wakesAt side (Wake l g) = true
 wakesAt side Gate = false
+wakesAt side (Spin n) = false
 wakesAt side Epoch = false
 wakesAt side (Again e) = false
 wakesAt side (GateAgain e) = false
@@ -242,47 +249,49 @@ setsNone s = setsNo (nextAt s Sender 0)
 
 -- a turn of the other's keeps what the waiter relies on. x is the waiter's room as the mover checks it, ok whether no failure
 -- was announced
-pub theirs : (side : Side) (k′ x : ℕ) (zz : Door) (m r : Bool) (b : ℕ) (s next : Step) → Leads k′ x zz m r b s next → r ≡ true → (ok : Bool) (ph : Phase) (n : ℕ) (z z′ : Bool)
+pub theirs : (side : Side) (k′ x : ℕ) (zz : Door) (m r : Bool) (b a : ℕ) (s next : Step) → Leads k′ x zz m r b a s next → r ≡ true → (ok : Bool) (ph : Phase) (n : ℕ) (z z′ : Bool)
     → (setsNone s ≡ true → z′ ≡ z) → (wakesAt side s ≡ true → ph ≡ sleeps → ok ≡ true)
     → Good ph n x z (duty side s) → Good (risen (wakesAt side s && ok) ph) (rungBy side s n) (roomBy s x) z′ (duty side next)
-theirs side k′ x zz m r b s next idles t ok ph n z z′ f l y = rw (f refl) y
-theirs side k′ x zz m r b s next (finds h) t ok ph n z z′ f l y = rw (f refl) (calm ph n x z _ y)
-theirs side k′ x zz m r b s next (blocks h q) t ok ph n z z′ f l y = rw (f refl) (calm ph n x z _ y)
-theirs side k′ x zz m r b s next (gives-up h q) t ok ph n z z′ f l y = rw (f refl) (calm ph n x z _ y)
-theirs side k′ x zz m r b s next copies t ok ph n z z′ f l y = rw (f refl) (calm ph n x z _ y)
-theirs side k′ x zz m r b s next spills t ok ph n z z′ f l y = rw (f refl) (calm ph n x z _ y)
-theirs side k′ x zz m r b s next (tells h) t ok ph n z z′ f l y = rw (f refl) (stored ph n x z y)
-theirs side k′ x zz m r b s next (stores h) t ok ph n z z′ f l y = absurd (let u : _≡_ {A = ℕ} 0 1 = cc in omega arith)
-theirs side k′ x zz m r b s next (owes h) t ok ph n z z′ f l y = rw (f refl) (rings-it ph n x z h y)
-theirs side k′ x zz m r b s next (passes h) t ok ph n z z′ f l y = rw (f refl) (lets-be ph n x z h y)
-theirs side k′ x zz m r b s next raises t ok ph n z z′ f l y = rw (f refl) (belled ph n x z y)
-theirs side k′ x zz m r b s next wakes t ok ph n z z′ f l y = rw (f refl) (landed-good ok ph n x z (l refl) y)
-theirs side k′ x zz m r b s next (enters h) t ok ph n z z′ f l y = rw (f refl) (calm ph n x z _ y)
-theirs side k′ x zz m r b s next (stops h) t ok ph n z z′ f l y = rw (f refl) (calm ph n x z _ y)
-theirs side k′ x zz m r b s next reads t ok ph n z z′ f l y = rw (f refl) (calm ph n x z _ y)
-theirs side k′ x zz m r b s next (finds-again h) t ok ph n z z′ f l y = rw (f refl) (calm ph n x z _ y)
-theirs side k′ x zz m r b s next (stays h) t ok ph n z z′ f l y = rw (f refl) (calm ph n x z _ y)
-theirs side k′ x zz m r b s next (enters-again h) t ok ph n z z′ f l y = rw (f refl) (calm ph n x z _ y)
-theirs side k′ x zz m r b s next (stops-again h) t ok ph n z z′ f l y = rw (f refl) (calm ph n x z _ y)
-theirs side k′ x zz m r b s next (falls-asleep h) t ok ph n z z′ f l y = rw (f refl) (calm ph n x z _ y)
-theirs side k′ x zz m r b s next returns t ok ph n z z′ f l y = rw (f refl) (calm ph n x z _ y)
-theirs side k′ x zz m r b s next ends t ok ph n z z′ f l y = rw (f refl) (calm ph n x z _ y)
-theirs side k′ x zz m r b s next dreams t ok ph n z z′ f l y = rw (f refl) y
-theirs side k′ x zz m r b s next (glances h) t ok ph n z z′ f l y = rw (f refl) (calm ph n x z _ y)
-theirs side k′ x zz m r b s next (glances-again h) t ok ph n z z′ f l y = rw (f refl) (calm ph n x z _ y)
-theirs side k′ x zz m r b s next times-out t ok ph n z z′ f l y = rw (f refl) (calm ph n x z _ y)
-theirs side k′ x zz m r b s next (finds-last h) t ok ph n z z′ f l y = rw (f refl) (calm ph n x z _ y)
-theirs side k′ x zz m r b s next (finds-none h) t ok ph n z z′ f l y = rw (f refl) (calm ph n x z _ y)
-theirs side k′ x zz m r b s next (closes h) t ok ph n z z′ f l y = flagged ph n x z z′ _ y
-theirs side k′ x zz m r b s next (closes-alone h) t ok ph n z z′ f l y = absurd (let u : _≡_ {A = ℕ} 0 1 = cc in omega arith)
-theirs side k′ x zz m r b s next close-raises t ok ph n z z′ f l y = rw (f refl) (belled ph n x z y)
-theirs side k′ x zz m r b s next close-wakes t ok ph n z z′ f l y = rw (f refl) (landed-good ok ph n x z (l refl) y)
-theirs side k′ x zz m r b s next shuts t ok ph n z z′ f l y = flagged ph n x z z′ _ y
-theirs Sender k′ x zz m r b s next shut-raises t ok ph n z z′ f l y = rw (f refl) (belled ph n x z y)
-theirs Recorder k′ x zz m r b s next shut-raises t ok ph n z z′ f l y = rw (f refl) y
-theirs Sender k′ x zz m r b s next shut-wakes t ok ph n z z′ f l y = rw (f refl) (landed-good ok ph n x z (l refl) y)
-theirs Recorder k′ x zz m r b s next shut-wakes t ok ph n z z′ f l y = rw (f refl) y
-theirs Sender k′ x zz m r b s next shut-raises-again t ok ph n z z′ f l y = rw (f refl) y
-theirs Recorder k′ x zz m r b s next shut-raises-again t ok ph n z z′ f l y = rw (f refl) (belled ph n x z y)
-theirs Sender k′ x zz m r b s next shut-wakes-again t ok ph n z z′ f l y = rw (f refl) y
-theirs Recorder k′ x zz m r b s next shut-wakes-again t ok ph n z z′ f l y = rw (f refl) (landed-good ok ph n x z (l refl) y)
+theirs side k′ x zz m r b a s next idles t ok ph n z z′ f l y = rw (f refl) y
+theirs side k′ x zz m r b a s next (finds h) t ok ph n z z′ f l y = rw (f refl) (calm ph n x z _ y)
+theirs side k′ x zz m r b a s next (blocks h q) t ok ph n z z′ f l y = rw (f refl) (calm ph n x z _ y)
+theirs side k′ x zz m r b a s next (gives-up h q) t ok ph n z z′ f l y = rw (f refl) (calm ph n x z _ y)
+theirs side k′ x zz m r b a s next copies t ok ph n z z′ f l y = rw (f refl) (calm ph n x z _ y)
+theirs side k′ x zz m r b a s next spills t ok ph n z z′ f l y = rw (f refl) (calm ph n x z _ y)
+theirs side k′ x zz m r b a s next (tells h) t ok ph n z z′ f l y = rw (f refl) (stored ph n x z y)
+theirs side k′ x zz m r b a s next (stores h) t ok ph n z z′ f l y = absurd (let u : _≡_ {A = ℕ} 0 1 = cc in omega arith)
+theirs side k′ x zz m r b a s next (owes h) t ok ph n z z′ f l y = rw (f refl) (rings-it ph n x z h y)
+theirs side k′ x zz m r b a s next (passes h) t ok ph n z z′ f l y = rw (f refl) (lets-be ph n x z h y)
+theirs side k′ x zz m r b a s next raises t ok ph n z z′ f l y = rw (f refl) (belled ph n x z y)
+theirs side k′ x zz m r b a s next wakes t ok ph n z z′ f l y = rw (f refl) (landed-good ok ph n x z (l refl) y)
+theirs side k′ x zz m r b a s next (enters h o) t ok ph n z z′ f l y = rw (f refl, owes-none side _ next o) (calm ph n x z _ y)
+theirs side k′ x zz m r b a s next (finds-spin h) t ok ph n z z′ f l y = rw (f refl) (calm ph n x z _ y)
+theirs side k′ x zz m r b a s next (spins h o) t ok ph n z z′ f l y = rw (f refl, owes-none side _ next o) (calm ph n x z _ y)
+theirs side k′ x zz m r b a s next (stops h) t ok ph n z z′ f l y = rw (f refl) (calm ph n x z _ y)
+theirs side k′ x zz m r b a s next reads t ok ph n z z′ f l y = rw (f refl) (calm ph n x z _ y)
+theirs side k′ x zz m r b a s next (finds-again h) t ok ph n z z′ f l y = rw (f refl) (calm ph n x z _ y)
+theirs side k′ x zz m r b a s next (stays h) t ok ph n z z′ f l y = rw (f refl) (calm ph n x z _ y)
+theirs side k′ x zz m r b a s next (enters-again h) t ok ph n z z′ f l y = rw (f refl) (calm ph n x z _ y)
+theirs side k′ x zz m r b a s next (stops-again h) t ok ph n z z′ f l y = rw (f refl) (calm ph n x z _ y)
+theirs side k′ x zz m r b a s next (falls-asleep h) t ok ph n z z′ f l y = rw (f refl) (calm ph n x z _ y)
+theirs side k′ x zz m r b a s next returns t ok ph n z z′ f l y = rw (f refl) (calm ph n x z _ y)
+theirs side k′ x zz m r b a s next ends t ok ph n z z′ f l y = rw (f refl) (calm ph n x z _ y)
+theirs side k′ x zz m r b a s next dreams t ok ph n z z′ f l y = rw (f refl) y
+theirs side k′ x zz m r b a s next (glances h) t ok ph n z z′ f l y = rw (f refl) (calm ph n x z _ y)
+theirs side k′ x zz m r b a s next (glances-again h) t ok ph n z z′ f l y = rw (f refl) (calm ph n x z _ y)
+theirs side k′ x zz m r b a s next times-out t ok ph n z z′ f l y = rw (f refl) (calm ph n x z _ y)
+theirs side k′ x zz m r b a s next (finds-last h) t ok ph n z z′ f l y = rw (f refl) (calm ph n x z _ y)
+theirs side k′ x zz m r b a s next (finds-none h) t ok ph n z z′ f l y = rw (f refl) (calm ph n x z _ y)
+theirs side k′ x zz m r b a s next (closes h) t ok ph n z z′ f l y = flagged ph n x z z′ _ y
+theirs side k′ x zz m r b a s next (closes-alone h) t ok ph n z z′ f l y = absurd (let u : _≡_ {A = ℕ} 0 1 = cc in omega arith)
+theirs side k′ x zz m r b a s next close-raises t ok ph n z z′ f l y = rw (f refl) (belled ph n x z y)
+theirs side k′ x zz m r b a s next close-wakes t ok ph n z z′ f l y = rw (f refl) (landed-good ok ph n x z (l refl) y)
+theirs side k′ x zz m r b a s next shuts t ok ph n z z′ f l y = flagged ph n x z z′ _ y
+theirs Sender k′ x zz m r b a s next shut-raises t ok ph n z z′ f l y = rw (f refl) (belled ph n x z y)
+theirs Recorder k′ x zz m r b a s next shut-raises t ok ph n z z′ f l y = rw (f refl) y
+theirs Sender k′ x zz m r b a s next shut-wakes t ok ph n z z′ f l y = rw (f refl) (landed-good ok ph n x z (l refl) y)
+theirs Recorder k′ x zz m r b a s next shut-wakes t ok ph n z z′ f l y = rw (f refl) y
+theirs Sender k′ x zz m r b a s next shut-raises-again t ok ph n z z′ f l y = rw (f refl) y
+theirs Recorder k′ x zz m r b a s next shut-raises-again t ok ph n z z′ f l y = rw (f refl) (belled ph n x z y)
+theirs Sender k′ x zz m r b a s next shut-wakes-again t ok ph n z z′ f l y = rw (f refl) y
+theirs Recorder k′ x zz m r b a s next shut-wakes-again t ok ph n z z′ f l y = rw (f refl) (landed-good ok ph n x z (l refl) y)

@@ -1,10 +1,10 @@
 -- Where a turn may lead, with what it then knows: one row a way. k is the own room, x the other's, z what the flags say to it,
--- m whether it blocks, r whether it rings, b its bell.
+-- m whether it blocks, r whether it rings, b its bell, a how often it spins.
 use mathlib.Core.Path.{_≡_, refl, sym, ap, _∙_}
 use mathlib.Core.Bool.{Bool, true, false, _||_}
-use Prim.Native.Nat.{ℕ, zero, suc, _%_, _^_, _<_}
+use Prim.Native.Nat.{ℕ, zero, suc, _-_, _%_, _^_, _<_}
 use native.Mathlib.Omega.{arith}
-use borrow.Author.Tests.{eqb-true, eqb-false}
+use borrow.Author.Tests.{eqb-true, eqb-false, ne-eqb}
 use lib.Dec.{eqb}
 use Rattle.types.specs.Pick.{pick}
 use Rattle.types.specs.declared.Side.{Side}
@@ -18,7 +18,7 @@ use Rattle.types.specs.declared.Fit.the-variants.{Bad, Small, Fits}
 use Rattle.types.specs.declared.Nap.{Nap}
 use Rattle.types.specs.declared.Nap.the-variants.{Sleeps, Returns, TimedOut, Fails}
 use Rattle.types.specs.declared.Step.{Step}
-use Rattle.types.specs.declared.Step.the-variants.{Rest, Look, Copy, Publish, Check, Raise, Wake, Gate, Epoch, Again, GateAgain, Wait, Asleep, LastLook, CloseSet, CloseRaise, CloseWake, ShutSet, ShutRaiseNe, ShutWakeNe, ShutRaiseNf, ShutWakeNf}
+use Rattle.types.specs.declared.Step.the-variants.{Rest, Look, Copy, Publish, Check, Raise, Wake, Gate, Spin, Epoch, Again, GateAgain, Wait, Asleep, LastLook, CloseSet, CloseRaise, CloseWake, ShutSet, ShutRaiseNe, ShutWakeNe, ShutRaiseNf, ShutWakeNf}
 use Rattle.types.specs.declared.Answer.the-variants.{Done, Closed, Timeout}
 use Rattle.types.specs.declared.Move.the-variants.{To, End}
 use Rattle.layout.specs.Limits.{capacity, payloadCapacity}
@@ -26,7 +26,8 @@ use Rattle.layout.specs.Flags.{worth, bitOn, closeMark}
 use Rattle.layout.specs.Slots.{headOf}
 use Rattle.rules.specs.Sides.{other, rings, sleepBell, waitOp}
 use Rattle.rules.specs.Looks.{roomOf, wasBlocked, doorOf, fitOf, napOf}
-use Rattle.rules.specs.Steps.{roomMove, blockedMove, lookMove, fitMove, copyWith, copyMove, publishMove, checkMove, wakeMove, doorMove, gateMove, againMove, napMove, waitMove, lastMove, closeMove, shutMove}
+use Rattle.rules.specs.Steps.{roomMove, blockedMove, lookMove, fitMove, copyWith, copyMove, publishMove, checkMove, wakeMove, doorMove, gateMove, toSpin, spinMove, againMove, napMove, waitMove, lastMove, closeMove, shutMove}
+use Rattle.rules.specs.Phase.{asking, phase}
 use Rattle.rules.specs.Take.{moveAt, stepAfter}
 use Rattle.rules.proofs.Rooms.{asRoom}
 
@@ -54,48 +55,66 @@ open-door Shut e = absurd (let z : _≡_ {A = ℕ} 0 1 = cc in omega arith)
 open-door Left e = absurd (let z : _≡_ {A = ℕ} 0 1 = cc in omega arith)
 open-door Open e = refl
 
-pub data Leads (k x : ℕ) (z : Door) (m r : Bool) (b : ℕ) : Step → Step → Type 0 where
-  idles : Leads k x z m r b Rest Rest
-  finds : 0 < k → Leads k x z m r b Look Copy
-  blocks : k ≡ 0 → m ≡ true → Leads k x z m r b Look Gate
-  gives-up : k ≡ 0 → m ≡ false → Leads k x z m r b Look Rest
-  copies : {l t : ℕ} → Leads k x z m r b Copy (Publish l t)
-  spills : Leads k x z m r b Copy Rest
-  tells : {l t : ℕ} → r ≡ true → Leads k x z m r b (Publish l t) (Check l t)
-  stores : {l t : ℕ} → r ≡ false → Leads k x z m r b (Publish l t) Rest
-  owes : {l t : ℕ} → x ≡ 1 → Leads k x z m r b (Check l t) (Raise l t)
-  passes : {l t : ℕ} → (x ≡ 1 → ⊥) → Leads k x z m r b (Check l t) Rest
-  raises : {l t : ℕ} → Leads k x z m r b (Raise l t) (Wake l t)
-  wakes : {l t : ℕ} → Leads k x z m r b (Wake l t) Rest
-  enters : z ≡ Open → Leads k x z m r b Gate Epoch
-  stops : barred z ≡ true → Leads k x z m r b Gate Rest
-  reads : Leads k x z m r b Epoch (Again (b % 2 ^ 32))
-  finds-again : {e : ℕ} → 0 < k → Leads k x z m r b (Again e) Copy
-  stays : {e : ℕ} → k ≡ 0 → Leads k x z m r b (Again e) (GateAgain e)
-  enters-again : {e : ℕ} → z ≡ Open → Leads k x z m r b (GateAgain e) (Wait e)
-  stops-again : {e : ℕ} → barred z ≡ true → Leads k x z m r b (GateAgain e) Rest
-  sleeps : {e : ℕ} → b ≡ e → Leads k x z m r b (Wait e) Asleep
-  returns : {e : ℕ} → Leads k x z m r b (Wait e) Look
-  ends : {e : ℕ} → Leads k x z m r b (Wait e) Rest
-  dreams : Leads k x z m r b Asleep Asleep
-  glances : z ≡ Left → Leads k x z m r b Gate (LastLook false)
-  glances-again : {e : ℕ} → z ≡ Left → Leads k x z m r b (GateAgain e) (LastLook false)
-  times-out : {e : ℕ} → Leads k x z m r b (Wait e) (LastLook true)
-  finds-last : {c : Bool} → 0 < k → Leads k x z m r b (LastLook c) Copy
-  finds-none : {c : Bool} → k ≡ 0 → Leads k x z m r b (LastLook c) Rest
-  closes : r ≡ true → Leads k x z m r b CloseSet CloseRaise
-  closes-alone : r ≡ false → Leads k x z m r b CloseSet Rest
-  close-raises : Leads k x z m r b CloseRaise CloseWake
-  close-wakes : Leads k x z m r b CloseWake Rest
-  shuts : {c : Bool} → Leads k x z m r b (ShutSet c) (ShutRaiseNe c)
-  shut-raises : {c : Bool} → Leads k x z m r b (ShutRaiseNe c) (ShutWakeNe c)
-  shut-wakes : {c : Bool} {f : ℕ} → Leads k x z m r b (ShutWakeNe c) (ShutRaiseNf c f)
-  shut-raises-again : {c : Bool} {f : ℕ} → Leads k x z m r b (ShutRaiseNf c f) (ShutWakeNf c f)
-  shut-wakes-again : {c : Bool} {f : ℕ} → Leads k x z m r b (ShutWakeNf c f) Rest
+-- where so many spins are left: a spin that one fewer follow, or the look at the bell
+pub data Onward : (spins : ℕ) → Step → Type 0 where
+  straight : Onward 0 Epoch
+  around : (n : ℕ) → Onward (suc n) (Spin n)
 
-module _ (k x : ℕ) (z : Door) (m r : Bool) (b : ℕ) where
+pub onward : (n : ℕ) → Onward n (toSpin n)
+unfolding toSpin
+onward zero = straight
+onward (suc n) =
+    let e : suc n - 1 ≡ n = omega arith in
+    rw (ne-eqb (suc n) 0 (λ q. omega arith), e) (around n)
+
+pub asks : (n : ℕ) (t : Step) → Onward n t → phase t ≡ asking
+asks n t straight = refl
+asks n t (around m) = refl
+
+pub data Leads (k x : ℕ) (z : Door) (m r : Bool) (b a : ℕ) : Step → Step → Type 0 where
+  idles : Leads k x z m r b a Rest Rest
+  finds : 0 < k → Leads k x z m r b a Look Copy
+  blocks : k ≡ 0 → m ≡ true → Leads k x z m r b a Look Gate
+  gives-up : k ≡ 0 → m ≡ false → Leads k x z m r b a Look Rest
+  copies : {l t : ℕ} → Leads k x z m r b a Copy (Publish l t)
+  spills : Leads k x z m r b a Copy Rest
+  tells : {l t : ℕ} → r ≡ true → Leads k x z m r b a (Publish l t) (Check l t)
+  stores : {l t : ℕ} → r ≡ false → Leads k x z m r b a (Publish l t) Rest
+  owes : {l t : ℕ} → x ≡ 1 → Leads k x z m r b a (Check l t) (Raise l t)
+  passes : {l t : ℕ} → (x ≡ 1 → ⊥) → Leads k x z m r b a (Check l t) Rest
+  raises : {l t : ℕ} → Leads k x z m r b a (Raise l t) (Wake l t)
+  wakes : {l t : ℕ} → Leads k x z m r b a (Wake l t) Rest
+  enters : {t : Step} → z ≡ Open → Onward a t → Leads k x z m r b a Gate t
+  stops : barred z ≡ true → Leads k x z m r b a Gate Rest
+  finds-spin : {n : ℕ} → 0 < k → Leads k x z m r b a (Spin n) Copy
+  spins : {n : ℕ} {t : Step} → k ≡ 0 → Onward n t → Leads k x z m r b a (Spin n) t
+  reads : Leads k x z m r b a Epoch (Again (b % 2 ^ 32))
+  finds-again : {e : ℕ} → 0 < k → Leads k x z m r b a (Again e) Copy
+  stays : {e : ℕ} → k ≡ 0 → Leads k x z m r b a (Again e) (GateAgain e)
+  enters-again : {e : ℕ} → z ≡ Open → Leads k x z m r b a (GateAgain e) (Wait e)
+  stops-again : {e : ℕ} → barred z ≡ true → Leads k x z m r b a (GateAgain e) Rest
+  sleeps : {e : ℕ} → b ≡ e → Leads k x z m r b a (Wait e) Asleep
+  returns : {e : ℕ} → Leads k x z m r b a (Wait e) Look
+  ends : {e : ℕ} → Leads k x z m r b a (Wait e) Rest
+  dreams : Leads k x z m r b a Asleep Asleep
+  glances : z ≡ Left → Leads k x z m r b a Gate (LastLook false)
+  glances-again : {e : ℕ} → z ≡ Left → Leads k x z m r b a (GateAgain e) (LastLook false)
+  times-out : {e : ℕ} → Leads k x z m r b a (Wait e) (LastLook true)
+  finds-last : {c : Bool} → 0 < k → Leads k x z m r b a (LastLook c) Copy
+  finds-none : {c : Bool} → k ≡ 0 → Leads k x z m r b a (LastLook c) Rest
+  closes : r ≡ true → Leads k x z m r b a CloseSet CloseRaise
+  closes-alone : r ≡ false → Leads k x z m r b a CloseSet Rest
+  close-raises : Leads k x z m r b a CloseRaise CloseWake
+  close-wakes : Leads k x z m r b a CloseWake Rest
+  shuts : {c : Bool} → Leads k x z m r b a (ShutSet c) (ShutRaiseNe c)
+  shut-raises : {c : Bool} → Leads k x z m r b a (ShutRaiseNe c) (ShutWakeNe c)
+  shut-wakes : {c : Bool} {f : ℕ} → Leads k x z m r b a (ShutWakeNe c) (ShutRaiseNf c f)
+  shut-raises-again : {c : Bool} {f : ℕ} → Leads k x z m r b a (ShutRaiseNf c f) (ShutWakeNf c f)
+  shut-wakes-again : {c : Bool} {f : ℕ} → Leads k x z m r b a (ShutWakeNf c f) Rest
+
+module _ (k x : ℕ) (z : Door) (m r : Bool) (b a : ℕ) where
   abbrev L : Step → Step → Type 0
-  L s t = Leads k x z m r b s t
+  L s t = Leads k x z m r b a s t
 
   look-leads : (side : Side) (j : ℕ) → k ≡ j → (n : Bool) → m ≡ n → L Look (stepAfter (roomMove (asRoom j) (blockedMove n side)) Look)
   look-leads side (suc j) q n h = finds (omega arith)
@@ -120,11 +139,15 @@ module _ (k x : ℕ) (z : Door) (m r : Bool) (b : ℕ) where
   check-leads l t true h = owes (eqb-true x 1 h)
   check-leads l t false h = passes (eqb-false x 1 h)
 
-  gate-leads : (side : Side) (d : Door) → z ≡ d → L Gate (stepAfter (doorMove d side Epoch) Gate)
+  gate-leads : (side : Side) (d : Door) → z ≡ d → L Gate (stepAfter (doorMove d side (toSpin a)) Gate)
   gate-leads side Shut h = stops (ap barred h)
   gate-leads Sender Left h = stops (ap barred h)
   gate-leads Recorder Left h = glances h
-  gate-leads side Open h = enters h
+  gate-leads side Open h = enters h (onward a)
+
+  spin-leads : (n j : ℕ) → k ≡ j → L (Spin n) (stepAfter (roomMove (asRoom j) (To (toSpin n))) (Spin n))
+  spin-leads n (suc j) q = finds-spin (omega arith)
+  spin-leads n zero q = spins q (onward n)
 
   gate-again-leads : (side : Side) (e : ℕ) (d : Door) → z ≡ d → L (GateAgain e) (stepAfter (doorMove d side (Wait e)) (GateAgain e))
   gate-again-leads side e Shut h = stops-again (ap barred h)
@@ -168,6 +191,7 @@ Tells own k x z b c v (Check l t) = wasBlocked (own .side) (capacity (own .power
 Tells own k x z b c v (Raise l t) = Unit
 Tells own k x z b c v (Wake l t) = Unit
 Tells own k x z b c v Gate = doorOf (own .side) v ≡ z
+Tells own k x z b c v (Spin n) = roomOf (own .side) (capacity (own .power)) c v ≡ asRoom k
 Tells own k x z b c v Epoch = v ≡ b
 Tells own k x z b c v (Again e) = roomOf (own .side) (capacity (own .power)) c v ≡ asRoom k
 Tells own k x z b c v (GateAgain e) = doorOf (own .side) v ≡ z
@@ -184,24 +208,25 @@ Tells own k x z b c v (ShutRaiseNf q f) = Unit
 Tells own k x z b c v (ShutWakeNf q f) = Unit
 
 pub leads : (own : Own) (k x : ℕ) (z : Door) (b c : ℕ) (m : Bool) (l v f : ℕ) (s : Step) → Tells own k x z b c v s
-    → Leads k x z m (rings (own .side) (own .notfull)) b s (stepAfter (moveAt s own c m l v f) s)
-unfolding lookMove copyMove publishMove checkMove wakeMove gateMove againMove waitMove lastMove closeMove shutMove
+    → Leads k x z m (rings (own .side) (own .notfull)) b (own .spins) s (stepAfter (moveAt s own c m l v f) s)
+unfolding lookMove copyMove publishMove checkMove wakeMove gateMove spinMove againMove waitMove lastMove closeMove shutMove
 leads own k x z b c m l v f Rest h = idles
-leads own k x z b c m l v f Look h = rw h (look-leads k x z m (rings (own .side) (own .notfull)) b (own .side) k refl m refl)
-leads own k x z b c m l v f Copy h = copy-leads k x z m (rings (own .side) (own .notfull)) b (own .side) (fitOf (headOf v) (payloadCapacity (own .slot)) l) (headOf v .length) (headOf v .tag)
-leads own k x z b c m l v f (Publish n t) h = publish-leads k x z m (rings (own .side) (own .notfull)) b n t (rings (own .side) (own .notfull)) refl
-leads own k x z b c m l v f (Check n t) h = rw h (check-leads k x z m (rings (own .side) (own .notfull)) b n t (eqb x 1) refl)
+leads own k x z b c m l v f Look h = rw h (look-leads k x z m (rings (own .side) (own .notfull)) b (own .spins) (own .side) k refl m refl)
+leads own k x z b c m l v f Copy h = copy-leads k x z m (rings (own .side) (own .notfull)) b (own .spins) (own .side) (fitOf (headOf v) (payloadCapacity (own .slot)) l) (headOf v .length) (headOf v .tag)
+leads own k x z b c m l v f (Publish n t) h = publish-leads k x z m (rings (own .side) (own .notfull)) b (own .spins) n t (rings (own .side) (own .notfull)) refl
+leads own k x z b c m l v f (Check n t) h = rw h (check-leads k x z m (rings (own .side) (own .notfull)) b (own .spins) n t (eqb x 1) refl)
 leads own k x z b c m l v f (Raise n t) h = raises
 leads own k x z b c m l v f (Wake n t) h = wakes
-leads own k x z b c m l v f Gate h = rw h (gate-leads k x z m (rings (own .side) (own .notfull)) b (own .side) z refl)
+leads own k x z b c m l v f Gate h = rw h (gate-leads k x z m (rings (own .side) (own .notfull)) b (own .spins) (own .side) z refl)
+leads own k x z b c m l v f (Spin n) h = rw h (spin-leads k x z m (rings (own .side) (own .notfull)) b (own .spins) n k refl)
 leads own k x z b c m l v f Epoch h = rw h reads
-leads own k x z b c m l v f (Again e) h = rw h (again-leads k x z m (rings (own .side) (own .notfull)) b e k refl)
-leads own k x z b c m l v f (GateAgain e) h = rw h (gate-again-leads k x z m (rings (own .side) (own .notfull)) b (own .side) e z refl)
+leads own k x z b c m l v f (Again e) h = rw h (again-leads k x z m (rings (own .side) (own .notfull)) b (own .spins) e k refl)
+leads own k x z b c m l v f (GateAgain e) h = rw h (gate-again-leads k x z m (rings (own .side) (own .notfull)) b (own .spins) (own .side) e z refl)
 leads own k x z b c m l v f (Wait e) h =
-    wait-leads k x z m (rings (own .side) (own .notfull)) b e (waitOp (sleepBell (own .side))) f (napOf f (eqb v e)) (λ q. sym h ∙ eqb-true v e (nap-sleeps f (eqb v e) q))
+    wait-leads k x z m (rings (own .side) (own .notfull)) b (own .spins) e (waitOp (sleepBell (own .side))) f (napOf f (eqb v e)) (λ q. sym h ∙ eqb-true v e (nap-sleeps f (eqb v e) q))
 leads own k x z b c m l v f Asleep h = dreams
-leads own k x z b c m l v f (LastLook q) h = rw h (last-leads k x z m (rings (own .side) (own .notfull)) b q k refl)
-leads own k x z b c m l v f CloseSet h = close-leads k x z m (rings (own .side) (own .notfull)) b (rings (own .side) (own .notfull)) refl
+leads own k x z b c m l v f (LastLook q) h = rw h (last-leads k x z m (rings (own .side) (own .notfull)) b (own .spins) q k refl)
+leads own k x z b c m l v f CloseSet h = close-leads k x z m (rings (own .side) (own .notfull)) b (own .spins) (rings (own .side) (own .notfull)) refl
 leads own k x z b c m l v f CloseRaise h = close-raises
 leads own k x z b c m l v f CloseWake h = close-wakes
 leads own k x z b c m l v f (ShutSet q) h = shuts

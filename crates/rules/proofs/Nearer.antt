@@ -1,13 +1,13 @@
 -- The turns that are left to a call's end where a flag is up.
 use mathlib.Core.Path.{_≡_, refl, sym, ap, _∙_}
 use mathlib.Core.Bool.{Bool, true}
-use Prim.Native.Nat.{ℕ, zero, suc, _-_, _<_, _≤_}
+use Prim.Native.Nat.{ℕ, zero, suc, _+_, _-_, _<_, _≤_}
 use native.Mathlib.Omega.{arith}
 use Rattle.types.specs.declared.Door.{Door}
 use Rattle.types.specs.declared.Step.{Step}
-use Rattle.types.specs.declared.Step.the-variants.{Rest, Look, Copy, Publish, Check, Raise, Wake, Gate, Epoch, Again, GateAgain, Wait, Asleep, LastLook, CloseSet, CloseRaise, CloseWake, ShutSet, ShutRaiseNe, ShutWakeNe, ShutRaiseNf, ShutWakeNf}
-use Rattle.rules.proofs.Leads.{barred, Leads, idles, finds, blocks, gives-up, copies, spills, tells, stores, owes, passes, raises, wakes, enters, stops, reads, finds-again, stays, enters-again, stops-again, returns, ends, dreams, glances, glances-again, times-out, finds-last, finds-none, closes, closes-alone, close-raises, close-wakes, shuts, shut-raises, shut-wakes, shut-raises-again, shut-wakes-again, sleeps as falls-asleep}
-use Rattle.rules.proofs.Does.{less}
+use Rattle.types.specs.declared.Step.the-variants.{Rest, Look, Copy, Publish, Check, Raise, Wake, Gate, Spin, Epoch, Again, GateAgain, Wait, Asleep, LastLook, CloseSet, CloseRaise, CloseWake, ShutSet, ShutRaiseNe, ShutWakeNe, ShutRaiseNf, ShutWakeNf}
+use Rattle.rules.proofs.Leads.{Onward, straight, around, barred, Leads, idles, finds, blocks, gives-up, copies, spills, tells, stores, owes, passes, raises, wakes, enters, stops, finds-spin, spins, reads, finds-again, stays, enters-again, stops-again, returns, ends, dreams, glances, glances-again, times-out, finds-last, finds-none, closes, closes-alone, close-raises, close-wakes, shuts, shut-raises, shut-wakes, shut-raises-again, shut-wakes-again, sleeps as falls-asleep}
+use Rattle.rules.proofs.Does.{less, under}
 use Rattle.rules.proofs.Costs.{ownRoom}
 
 -- a look that finds room copies and goes on to a store; one that finds none comes to the flags, and to a last look at most
@@ -25,7 +25,8 @@ toRest (Check l g) k = 3
 toRest (Raise l g) k = 2
 toRest (Wake l g) k = 1
 toRest Gate k = byRoom k 2 7
-toRest Epoch k = 7
+toRest (Spin n) k = byRoom k (n + 5) 6
+toRest Epoch k = byRoom k 4 7
 toRest (Again e) k = byRoom k 3 6
 toRest (GateAgain e) k = byRoom k 2 7
 toRest (Wait e) k = 7
@@ -48,34 +49,35 @@ room-not : (k none some : ℕ) → 0 < none → 0 < some → byRoom k none some 
 room-not zero none some h g l = omega arith
 room-not (suc k) none some h g l = omega arith
 
--- at most seven are left, and none at rest alone
+-- at most seven are left, or five and the spins that follow; and none at rest alone
 pub record Near (s : Step) (k : ℕ) : Type 0 where
-  pub seven : toRest s k ≤ 7
+  pub most : (n : ℕ) → 7 ≤ n → ((m : ℕ) → s ≡ Spin m → m + 5 ≤ n) → toRest s k ≤ n
   pub rested : toRest s k ≤ 0 → s ≡ Rest
 
 pub near : (s : Step) (k : ℕ) → Near s k
-near Rest k = record { seven = omega arith; rested = λ h. refl }
-near Look k = record { seven = room-le k 3 6 7 (omega arith) (omega arith); rested = λ h. absurd (room-not k 3 6 (omega arith) (omega arith) h) }
-near Copy k = record { seven = omega arith; rested = λ h. absurd (omega arith) }
-near (Publish l g) k = record { seven = omega arith; rested = λ h. absurd (omega arith) }
-near (Check l g) k = record { seven = omega arith; rested = λ h. absurd (omega arith) }
-near (Raise l g) k = record { seven = omega arith; rested = λ h. absurd (omega arith) }
-near (Wake l g) k = record { seven = omega arith; rested = λ h. absurd (omega arith) }
-near Gate k = record { seven = room-le k 2 7 7 (omega arith) (omega arith); rested = λ h. absurd (room-not k 2 7 (omega arith) (omega arith) h) }
-near Epoch k = record { seven = omega arith; rested = λ h. absurd (omega arith) }
-near (Again e) k = record { seven = room-le k 3 6 7 (omega arith) (omega arith); rested = λ h. absurd (room-not k 3 6 (omega arith) (omega arith) h) }
-near (GateAgain e) k = record { seven = room-le k 2 7 7 (omega arith) (omega arith); rested = λ h. absurd (room-not k 2 7 (omega arith) (omega arith) h) }
-near (Wait e) k = record { seven = omega arith; rested = λ h. absurd (omega arith) }
-near Asleep k = record { seven = omega arith; rested = λ h. absurd (omega arith) }
-near (LastLook c) k = record { seven = room-le k 1 6 7 (omega arith) (omega arith); rested = λ h. absurd (room-not k 1 6 (omega arith) (omega arith) h) }
-near CloseSet k = record { seven = omega arith; rested = λ h. absurd (omega arith) }
-near CloseRaise k = record { seven = omega arith; rested = λ h. absurd (omega arith) }
-near CloseWake k = record { seven = omega arith; rested = λ h. absurd (omega arith) }
-near (ShutSet c) k = record { seven = omega arith; rested = λ h. absurd (omega arith) }
-near (ShutRaiseNe c) k = record { seven = omega arith; rested = λ h. absurd (omega arith) }
-near (ShutWakeNe c) k = record { seven = omega arith; rested = λ h. absurd (omega arith) }
-near (ShutRaiseNf c f) k = record { seven = omega arith; rested = λ h. absurd (omega arith) }
-near (ShutWakeNf c f) k = record { seven = omega arith; rested = λ h. absurd (omega arith) }
+near Rest k = record { most = λ n h f. omega arith; rested = λ h. refl }
+near Look k = record { most = λ n h f. room-le k 3 6 n (omega arith) (omega arith); rested = λ h. absurd (room-not k 3 6 (omega arith) (omega arith) h) }
+near Copy k = record { most = λ n h f. omega arith; rested = λ h. absurd (omega arith) }
+near (Publish l g) k = record { most = λ n h f. omega arith; rested = λ h. absurd (omega arith) }
+near (Check l g) k = record { most = λ n h f. omega arith; rested = λ h. absurd (omega arith) }
+near (Raise l g) k = record { most = λ n h f. omega arith; rested = λ h. absurd (omega arith) }
+near (Wake l g) k = record { most = λ n h f. omega arith; rested = λ h. absurd (omega arith) }
+near Gate k = record { most = λ n h f. room-le k 2 7 n (omega arith) (omega arith); rested = λ h. absurd (room-not k 2 7 (omega arith) (omega arith) h) }
+near (Spin m) k = record { most = λ n h f. room-le k (m + 5) 6 n (f m refl) (omega arith); rested = λ h. absurd (room-not k (m + 5) 6 (omega arith) (omega arith) h) }
+near Epoch k = record { most = λ n h f. room-le k 4 7 n (omega arith) (omega arith); rested = λ h. absurd (room-not k 4 7 (omega arith) (omega arith) h) }
+near (Again e) k = record { most = λ n h f. room-le k 3 6 n (omega arith) (omega arith); rested = λ h. absurd (room-not k 3 6 (omega arith) (omega arith) h) }
+near (GateAgain e) k = record { most = λ n h f. room-le k 2 7 n (omega arith) (omega arith); rested = λ h. absurd (room-not k 2 7 (omega arith) (omega arith) h) }
+near (Wait e) k = record { most = λ n h f. omega arith; rested = λ h. absurd (omega arith) }
+near Asleep k = record { most = λ n h f. omega arith; rested = λ h. absurd (omega arith) }
+near (LastLook c) k = record { most = λ n h f. room-le k 1 6 n (omega arith) (omega arith); rested = λ h. absurd (room-not k 1 6 (omega arith) (omega arith) h) }
+near CloseSet k = record { most = λ n h f. omega arith; rested = λ h. absurd (omega arith) }
+near CloseRaise k = record { most = λ n h f. omega arith; rested = λ h. absurd (omega arith) }
+near CloseWake k = record { most = λ n h f. omega arith; rested = λ h. absurd (omega arith) }
+near (ShutSet c) k = record { most = λ n h f. omega arith; rested = λ h. absurd (omega arith) }
+near (ShutRaiseNe c) k = record { most = λ n h f. omega arith; rested = λ h. absurd (omega arith) }
+near (ShutWakeNe c) k = record { most = λ n h f. omega arith; rested = λ h. absurd (omega arith) }
+near (ShutRaiseNf c f) k = record { most = λ n h f. omega arith; rested = λ h. absurd (omega arith) }
+near (ShutWakeNf c f) k = record { most = λ n h f. omega arith; rested = λ h. absurd (omega arith) }
 
 -- a turn with room and one without each take one off
 room-down : (k a b c d : ℕ) → (k ≡ 0 → a ≤ less c) → (0 < k → b ≤ less d) → byRoom k a b ≤ less (byRoom k c d)
@@ -86,42 +88,50 @@ room-found : (k none : ℕ) → 0 < k → 5 ≤ less (byRoom k none 6)
 room-found zero none h = absurd (omega arith)
 room-found (suc k) none h = omega arith
 
+-- a spin that finds no room
+spun : (n k : ℕ) (t : Step) → k ≡ 0 → Onward n t → toRest t k ≤ less (byRoom k (n + 5) 6)
+spun n zero t e straight = omega arith
+spun n zero t e (around m) = under (m + 5) (suc m + 5) (omega arith)
+spun n (suc k) t e o = absurd (omega arith)
+
 -- with a flag up, a turn takes one off them, but for a sleeper's
-pub nearer : (k x : ℕ) (z : Door) (m r : Bool) (b : ℕ) (s next : Step) → Leads k x z m r b s next → barred z ≡ true → (s ≡ Asleep → ⊥) → toRest next (ownRoom s k) ≤ less (toRest s k)
-nearer k x z m r b s next idles y d = omega arith
-nearer k x z m r b s next (finds h) y d = room-found k 3 h
-nearer k x z m r b s next (blocks h q) y d = room-down k 2 7 3 6 (λ e. omega arith) (λ e. omega arith)
-nearer k x z m r b s next (gives-up h q) y d = omega arith
-nearer k x z m r b s next copies y d = omega arith
-nearer k x z m r b s next spills y d = omega arith
-nearer k x z m r b s next (tells h) y d = omega arith
-nearer k x z m r b s next (stores h) y d = omega arith
-nearer k x z m r b s next (owes h) y d = omega arith
-nearer k x z m r b s next (passes h) y d = omega arith
-nearer k x z m r b s next raises y d = omega arith
-nearer k x z m r b s next wakes y d = omega arith
-nearer k x z m r b s next (enters h) y d = absurd (let q = sym y ∙ ap barred h in let u : _≡_ {A = ℕ} 0 1 = cc in omega arith)
-nearer k x z m r b s next (stops h) y d = omega arith
-nearer k x z m r b s next reads y d = room-le k 3 6 6 (omega arith) (omega arith)
-nearer k x z m r b s next (finds-again h) y d = room-found k 3 h
-nearer k x z m r b s next (stays h) y d = room-down k 2 7 3 6 (λ e. omega arith) (λ e. omega arith)
-nearer k x z m r b s next (enters-again h) y d = absurd (let q = sym y ∙ ap barred h in let u : _≡_ {A = ℕ} 0 1 = cc in omega arith)
-nearer k x z m r b s next (stops-again h) y d = omega arith
-nearer k x z m r b s next (falls-asleep h) y d = omega arith
-nearer k x z m r b s next returns y d = room-le k 3 6 6 (omega arith) (omega arith)
-nearer k x z m r b s next ends y d = omega arith
-nearer k x z m r b s next dreams y d = absurd (d refl)
-nearer k x z m r b s next (glances h) y d = room-down k 1 6 2 7 (λ e. omega arith) (λ e. omega arith)
-nearer k x z m r b s next (glances-again h) y d = room-down k 1 6 2 7 (λ e. omega arith) (λ e. omega arith)
-nearer k x z m r b s next times-out y d = room-le k 1 6 6 (omega arith) (omega arith)
-nearer k x z m r b s next (finds-last h) y d = room-found k 1 h
-nearer k x z m r b s next (finds-none h) y d = omega arith
-nearer k x z m r b s next (closes h) y d = omega arith
-nearer k x z m r b s next (closes-alone h) y d = omega arith
-nearer k x z m r b s next close-raises y d = omega arith
-nearer k x z m r b s next close-wakes y d = omega arith
-nearer k x z m r b s next shuts y d = omega arith
-nearer k x z m r b s next shut-raises y d = omega arith
-nearer k x z m r b s next shut-wakes y d = omega arith
-nearer k x z m r b s next shut-raises-again y d = omega arith
-nearer k x z m r b s next shut-wakes-again y d = omega arith
+pub nearer : (k x : ℕ) (z : Door) (m r : Bool) (b a : ℕ) (s next : Step) → Leads k x z m r b a s next → barred z ≡ true → (s ≡ Asleep → ⊥) → toRest next (ownRoom s k) ≤ less (toRest s k)
+nearer k x z m r b a s next idles y d = omega arith
+nearer k x z m r b a s next (finds h) y d = room-found k 3 h
+nearer k x z m r b a s next (blocks h q) y d = room-down k 2 7 3 6 (λ e. omega arith) (λ e. omega arith)
+nearer k x z m r b a s next (gives-up h q) y d = omega arith
+nearer k x z m r b a s next copies y d = omega arith
+nearer k x z m r b a s next spills y d = omega arith
+nearer k x z m r b a s next (tells h) y d = omega arith
+nearer k x z m r b a s next (stores h) y d = omega arith
+nearer k x z m r b a s next (owes h) y d = omega arith
+nearer k x z m r b a s next (passes h) y d = omega arith
+nearer k x z m r b a s next raises y d = omega arith
+nearer k x z m r b a s next wakes y d = omega arith
+nearer k x z m r b a s next (enters h o) y d = absurd (let q = sym y ∙ ap barred h in let u : _≡_ {A = ℕ} 0 1 = cc in omega arith)
+nearer k x z m r b a s next (finds-spin h) y d = room-found k _ h
+nearer k x z m r b a s next (spins h o) y d = spun _ k next h o
+nearer k x z m r b a s next (stops h) y d = omega arith
+nearer k x z m r b a s next reads y d = room-down k 3 6 4 7 (λ e. omega arith) (λ e. omega arith)
+nearer k x z m r b a s next (finds-again h) y d = room-found k 3 h
+nearer k x z m r b a s next (stays h) y d = room-down k 2 7 3 6 (λ e. omega arith) (λ e. omega arith)
+nearer k x z m r b a s next (enters-again h) y d = absurd (let q = sym y ∙ ap barred h in let u : _≡_ {A = ℕ} 0 1 = cc in omega arith)
+nearer k x z m r b a s next (stops-again h) y d = omega arith
+nearer k x z m r b a s next (falls-asleep h) y d = omega arith
+nearer k x z m r b a s next returns y d = room-le k 3 6 6 (omega arith) (omega arith)
+nearer k x z m r b a s next ends y d = omega arith
+nearer k x z m r b a s next dreams y d = absurd (d refl)
+nearer k x z m r b a s next (glances h) y d = room-down k 1 6 2 7 (λ e. omega arith) (λ e. omega arith)
+nearer k x z m r b a s next (glances-again h) y d = room-down k 1 6 2 7 (λ e. omega arith) (λ e. omega arith)
+nearer k x z m r b a s next times-out y d = room-le k 1 6 6 (omega arith) (omega arith)
+nearer k x z m r b a s next (finds-last h) y d = room-found k 1 h
+nearer k x z m r b a s next (finds-none h) y d = omega arith
+nearer k x z m r b a s next (closes h) y d = omega arith
+nearer k x z m r b a s next (closes-alone h) y d = omega arith
+nearer k x z m r b a s next close-raises y d = omega arith
+nearer k x z m r b a s next close-wakes y d = omega arith
+nearer k x z m r b a s next shuts y d = omega arith
+nearer k x z m r b a s next shut-raises y d = omega arith
+nearer k x z m r b a s next shut-wakes y d = omega arith
+nearer k x z m r b a s next shut-raises-again y d = omega arith
+nearer k x z m r b a s next shut-wakes-again y d = omega arith

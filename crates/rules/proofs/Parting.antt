@@ -2,98 +2,152 @@
 use mathlib.Core.Path.{_≡_, refl}
 use mathlib.Core.Bool.{Bool, true, false}
 use mathlib.Core.Logic.{_⊎_, inl, inr}
-use Prim.Native.Nat.{ℕ}
+use Prim.Native.Nat.{ℕ, _<_}
 use native.Mathlib.Omega.{arith}
 use Rattle.types.specs.declared.Side.{Side}
 use Rattle.types.specs.declared.Door.{Door}
 use Rattle.types.specs.declared.Door.the-variants.{Left}
 use Rattle.types.specs.declared.Step.{Step}
-use Rattle.types.specs.declared.Step.the-variants.{LastLook, CloseSet}
+use Rattle.types.specs.declared.Step.the-variants.{Spin, LastLook, CloseSet}
 use Rattle.types.specs.declared.Access.{Access}
 use Rattle.rules.specs.Take.{stanceOf, closedAfter}
 use Rattle.rules.specs.Phase.{phase}
 use Rattle.rules.proofs.Does.{Does, nothing, looks, flags, reads as epoch, writes, takes, stores as store, raises as ring, closes as close, shuts as shut, waits as wait, wakes as wake}
-use Rattle.rules.proofs.Leads.{Leads, idles, finds, blocks, gives-up, copies, spills, tells, stores, owes, passes, raises, wakes, enters, stops, reads, finds-again, stays, enters-again, stops-again, returns, ends, dreams, glances, glances-again, times-out, finds-last, finds-none, closes, closes-alone, close-raises, close-wakes, shuts, shut-raises, shut-wakes, shut-raises-again, shut-wakes-again, sleeps as falls-asleep}
+use Rattle.rules.proofs.Leads.{Onward, straight, around, Leads, idles, finds, blocks, gives-up, copies, spills, tells, stores, owes, passes, raises, wakes, enters, stops, finds-spin, spins, reads, finds-again, stays, enters-again, stops-again, returns, ends, dreams, glances, glances-again, times-out, finds-last, finds-none, closes, closes-alone, close-raises, close-wakes, shuts, shut-raises, shut-wakes, shut-raises-again, shut-wakes-again, sleeps as falls-asleep}
 use Rattle.rules.proofs.Real.{parts}
 
 -- a turn leads out of push and pop, not into them
-pub parts-on : (k x : ℕ) (z : Door) (m r : Bool) (b : ℕ) (s next : Step) → Leads k x z m r b s next → parts (phase s) ≡ true → parts (phase next) ≡ true
-parts-on k x z m r b s next idles e = refl
-parts-on k x z m r b s next (finds h) e = absurd (let u : _≡_ {A = ℕ} 0 1 = cc in omega arith)
-parts-on k x z m r b s next (blocks h q) e = absurd (let u : _≡_ {A = ℕ} 0 1 = cc in omega arith)
-parts-on k x z m r b s next (gives-up h q) e = absurd (let u : _≡_ {A = ℕ} 0 1 = cc in omega arith)
-parts-on k x z m r b s next copies e = absurd (let u : _≡_ {A = ℕ} 0 1 = cc in omega arith)
-parts-on k x z m r b s next spills e = absurd (let u : _≡_ {A = ℕ} 0 1 = cc in omega arith)
-parts-on k x z m r b s next (tells h) e = absurd (let u : _≡_ {A = ℕ} 0 1 = cc in omega arith)
-parts-on k x z m r b s next (stores h) e = absurd (let u : _≡_ {A = ℕ} 0 1 = cc in omega arith)
-parts-on k x z m r b s next (owes h) e = absurd (let u : _≡_ {A = ℕ} 0 1 = cc in omega arith)
-parts-on k x z m r b s next (passes h) e = absurd (let u : _≡_ {A = ℕ} 0 1 = cc in omega arith)
-parts-on k x z m r b s next raises e = absurd (let u : _≡_ {A = ℕ} 0 1 = cc in omega arith)
-parts-on k x z m r b s next wakes e = absurd (let u : _≡_ {A = ℕ} 0 1 = cc in omega arith)
-parts-on k x z m r b s next (enters h) e = absurd (let u : _≡_ {A = ℕ} 0 1 = cc in omega arith)
-parts-on k x z m r b s next (stops h) e = absurd (let u : _≡_ {A = ℕ} 0 1 = cc in omega arith)
-parts-on k x z m r b s next reads e = absurd (let u : _≡_ {A = ℕ} 0 1 = cc in omega arith)
-parts-on k x z m r b s next (finds-again h) e = absurd (let u : _≡_ {A = ℕ} 0 1 = cc in omega arith)
-parts-on k x z m r b s next (stays h) e = absurd (let u : _≡_ {A = ℕ} 0 1 = cc in omega arith)
-parts-on k x z m r b s next (enters-again h) e = absurd (let u : _≡_ {A = ℕ} 0 1 = cc in omega arith)
-parts-on k x z m r b s next (stops-again h) e = absurd (let u : _≡_ {A = ℕ} 0 1 = cc in omega arith)
-parts-on k x z m r b s next (falls-asleep h) e = absurd (let u : _≡_ {A = ℕ} 0 1 = cc in omega arith)
-parts-on k x z m r b s next returns e = absurd (let u : _≡_ {A = ℕ} 0 1 = cc in omega arith)
-parts-on k x z m r b s next ends e = absurd (let u : _≡_ {A = ℕ} 0 1 = cc in omega arith)
-parts-on k x z m r b s next dreams e = absurd (let u : _≡_ {A = ℕ} 0 1 = cc in omega arith)
-parts-on k x z m r b s next (glances h) e = absurd (let u : _≡_ {A = ℕ} 0 1 = cc in omega arith)
-parts-on k x z m r b s next (glances-again h) e = absurd (let u : _≡_ {A = ℕ} 0 1 = cc in omega arith)
-parts-on k x z m r b s next times-out e = absurd (let u : _≡_ {A = ℕ} 0 1 = cc in omega arith)
-parts-on k x z m r b s next (finds-last h) e = absurd (let u : _≡_ {A = ℕ} 0 1 = cc in omega arith)
-parts-on k x z m r b s next (finds-none h) e = absurd (let u : _≡_ {A = ℕ} 0 1 = cc in omega arith)
-parts-on k x z m r b s next (closes h) e = refl
-parts-on k x z m r b s next (closes-alone h) e = refl
-parts-on k x z m r b s next close-raises e = refl
-parts-on k x z m r b s next close-wakes e = refl
-parts-on k x z m r b s next shuts e = refl
-parts-on k x z m r b s next shut-raises e = refl
-parts-on k x z m r b s next shut-wakes e = refl
-parts-on k x z m r b s next shut-raises-again e = refl
-parts-on k x z m r b s next shut-wakes-again e = refl
+pub parts-on : (k x : ℕ) (z : Door) (m r : Bool) (b a : ℕ) (s next : Step) → Leads k x z m r b a s next → parts (phase s) ≡ true → parts (phase next) ≡ true
+parts-on k x z m r b a s next idles e = refl
+parts-on k x z m r b a s next (finds h) e = absurd (let u : _≡_ {A = ℕ} 0 1 = cc in omega arith)
+parts-on k x z m r b a s next (blocks h q) e = absurd (let u : _≡_ {A = ℕ} 0 1 = cc in omega arith)
+parts-on k x z m r b a s next (gives-up h q) e = absurd (let u : _≡_ {A = ℕ} 0 1 = cc in omega arith)
+parts-on k x z m r b a s next copies e = absurd (let u : _≡_ {A = ℕ} 0 1 = cc in omega arith)
+parts-on k x z m r b a s next spills e = absurd (let u : _≡_ {A = ℕ} 0 1 = cc in omega arith)
+parts-on k x z m r b a s next (tells h) e = absurd (let u : _≡_ {A = ℕ} 0 1 = cc in omega arith)
+parts-on k x z m r b a s next (stores h) e = absurd (let u : _≡_ {A = ℕ} 0 1 = cc in omega arith)
+parts-on k x z m r b a s next (owes h) e = absurd (let u : _≡_ {A = ℕ} 0 1 = cc in omega arith)
+parts-on k x z m r b a s next (passes h) e = absurd (let u : _≡_ {A = ℕ} 0 1 = cc in omega arith)
+parts-on k x z m r b a s next raises e = absurd (let u : _≡_ {A = ℕ} 0 1 = cc in omega arith)
+parts-on k x z m r b a s next wakes e = absurd (let u : _≡_ {A = ℕ} 0 1 = cc in omega arith)
+parts-on k x z m r b a s next (enters h o) e = absurd (let u : _≡_ {A = ℕ} 0 1 = cc in omega arith)
+parts-on k x z m r b a s next (finds-spin h) e = absurd (let u : _≡_ {A = ℕ} 0 1 = cc in omega arith)
+parts-on k x z m r b a s next (spins h o) e = absurd (let u : _≡_ {A = ℕ} 0 1 = cc in omega arith)
+parts-on k x z m r b a s next (stops h) e = absurd (let u : _≡_ {A = ℕ} 0 1 = cc in omega arith)
+parts-on k x z m r b a s next reads e = absurd (let u : _≡_ {A = ℕ} 0 1 = cc in omega arith)
+parts-on k x z m r b a s next (finds-again h) e = absurd (let u : _≡_ {A = ℕ} 0 1 = cc in omega arith)
+parts-on k x z m r b a s next (stays h) e = absurd (let u : _≡_ {A = ℕ} 0 1 = cc in omega arith)
+parts-on k x z m r b a s next (enters-again h) e = absurd (let u : _≡_ {A = ℕ} 0 1 = cc in omega arith)
+parts-on k x z m r b a s next (stops-again h) e = absurd (let u : _≡_ {A = ℕ} 0 1 = cc in omega arith)
+parts-on k x z m r b a s next (falls-asleep h) e = absurd (let u : _≡_ {A = ℕ} 0 1 = cc in omega arith)
+parts-on k x z m r b a s next returns e = absurd (let u : _≡_ {A = ℕ} 0 1 = cc in omega arith)
+parts-on k x z m r b a s next ends e = absurd (let u : _≡_ {A = ℕ} 0 1 = cc in omega arith)
+parts-on k x z m r b a s next dreams e = absurd (let u : _≡_ {A = ℕ} 0 1 = cc in omega arith)
+parts-on k x z m r b a s next (glances h) e = absurd (let u : _≡_ {A = ℕ} 0 1 = cc in omega arith)
+parts-on k x z m r b a s next (glances-again h) e = absurd (let u : _≡_ {A = ℕ} 0 1 = cc in omega arith)
+parts-on k x z m r b a s next times-out e = absurd (let u : _≡_ {A = ℕ} 0 1 = cc in omega arith)
+parts-on k x z m r b a s next (finds-last h) e = absurd (let u : _≡_ {A = ℕ} 0 1 = cc in omega arith)
+parts-on k x z m r b a s next (finds-none h) e = absurd (let u : _≡_ {A = ℕ} 0 1 = cc in omega arith)
+parts-on k x z m r b a s next (closes h) e = refl
+parts-on k x z m r b a s next (closes-alone h) e = refl
+parts-on k x z m r b a s next close-raises e = refl
+parts-on k x z m r b a s next close-wakes e = refl
+parts-on k x z m r b a s next shuts e = refl
+parts-on k x z m r b a s next shut-raises e = refl
+parts-on k x z m r b a s next shut-wakes e = refl
+parts-on k x z m r b a s next shut-raises-again e = refl
+parts-on k x z m r b a s next shut-wakes-again e = refl
 
-pub glances-left : (k x : ℕ) (z : Door) (m r : Bool) (b : ℕ) (s next : Step) → Leads k x z m r b s next → next ≡ LastLook false → z ≡ Left
-glances-left k x z m r b s next idles e = absurd (let u : _≡_ {A = ℕ} 0 1 = cc in omega arith)
-glances-left k x z m r b s next (finds h) e = absurd (let u : _≡_ {A = ℕ} 0 1 = cc in omega arith)
-glances-left k x z m r b s next (blocks h q) e = absurd (let u : _≡_ {A = ℕ} 0 1 = cc in omega arith)
-glances-left k x z m r b s next (gives-up h q) e = absurd (let u : _≡_ {A = ℕ} 0 1 = cc in omega arith)
-glances-left k x z m r b s next copies e = absurd (let u : _≡_ {A = ℕ} 0 1 = cc in omega arith)
-glances-left k x z m r b s next spills e = absurd (let u : _≡_ {A = ℕ} 0 1 = cc in omega arith)
-glances-left k x z m r b s next (tells h) e = absurd (let u : _≡_ {A = ℕ} 0 1 = cc in omega arith)
-glances-left k x z m r b s next (stores h) e = absurd (let u : _≡_ {A = ℕ} 0 1 = cc in omega arith)
-glances-left k x z m r b s next (owes h) e = absurd (let u : _≡_ {A = ℕ} 0 1 = cc in omega arith)
-glances-left k x z m r b s next (passes h) e = absurd (let u : _≡_ {A = ℕ} 0 1 = cc in omega arith)
-glances-left k x z m r b s next raises e = absurd (let u : _≡_ {A = ℕ} 0 1 = cc in omega arith)
-glances-left k x z m r b s next wakes e = absurd (let u : _≡_ {A = ℕ} 0 1 = cc in omega arith)
-glances-left k x z m r b s next (enters h) e = absurd (let u : _≡_ {A = ℕ} 0 1 = cc in omega arith)
-glances-left k x z m r b s next (stops h) e = absurd (let u : _≡_ {A = ℕ} 0 1 = cc in omega arith)
-glances-left k x z m r b s next reads e = absurd (let u : _≡_ {A = ℕ} 0 1 = cc in omega arith)
-glances-left k x z m r b s next (finds-again h) e = absurd (let u : _≡_ {A = ℕ} 0 1 = cc in omega arith)
-glances-left k x z m r b s next (stays h) e = absurd (let u : _≡_ {A = ℕ} 0 1 = cc in omega arith)
-glances-left k x z m r b s next (enters-again h) e = absurd (let u : _≡_ {A = ℕ} 0 1 = cc in omega arith)
-glances-left k x z m r b s next (stops-again h) e = absurd (let u : _≡_ {A = ℕ} 0 1 = cc in omega arith)
-glances-left k x z m r b s next (falls-asleep h) e = absurd (let u : _≡_ {A = ℕ} 0 1 = cc in omega arith)
-glances-left k x z m r b s next returns e = absurd (let u : _≡_ {A = ℕ} 0 1 = cc in omega arith)
-glances-left k x z m r b s next ends e = absurd (let u : _≡_ {A = ℕ} 0 1 = cc in omega arith)
-glances-left k x z m r b s next dreams e = absurd (let u : _≡_ {A = ℕ} 0 1 = cc in omega arith)
-glances-left k x z m r b s next (glances h) e = h
-glances-left k x z m r b s next (glances-again h) e = h
-glances-left k x z m r b s next times-out e = absurd (let u : _≡_ {A = ℕ} 0 1 = cc in omega arith)
-glances-left k x z m r b s next (finds-last h) e = absurd (let u : _≡_ {A = ℕ} 0 1 = cc in omega arith)
-glances-left k x z m r b s next (finds-none h) e = absurd (let u : _≡_ {A = ℕ} 0 1 = cc in omega arith)
-glances-left k x z m r b s next (closes h) e = absurd (let u : _≡_ {A = ℕ} 0 1 = cc in omega arith)
-glances-left k x z m r b s next (closes-alone h) e = absurd (let u : _≡_ {A = ℕ} 0 1 = cc in omega arith)
-glances-left k x z m r b s next close-raises e = absurd (let u : _≡_ {A = ℕ} 0 1 = cc in omega arith)
-glances-left k x z m r b s next close-wakes e = absurd (let u : _≡_ {A = ℕ} 0 1 = cc in omega arith)
-glances-left k x z m r b s next shuts e = absurd (let u : _≡_ {A = ℕ} 0 1 = cc in omega arith)
-glances-left k x z m r b s next shut-raises e = absurd (let u : _≡_ {A = ℕ} 0 1 = cc in omega arith)
-glances-left k x z m r b s next shut-wakes e = absurd (let u : _≡_ {A = ℕ} 0 1 = cc in omega arith)
-glances-left k x z m r b s next shut-raises-again e = absurd (let u : _≡_ {A = ℕ} 0 1 = cc in omega arith)
-glances-left k x z m r b s next shut-wakes-again e = absurd (let u : _≡_ {A = ℕ} 0 1 = cc in omega arith)
+not-last : (n : ℕ) (t : Step) → Onward n t → t ≡ LastLook false → ⊥
+not-last n t straight e = let u : _≡_ {A = ℕ} 0 1 = cc in omega arith
+not-last n t (around m) e = let u : _≡_ {A = ℕ} 0 1 = cc in omega arith
+
+pub glances-left : (k x : ℕ) (z : Door) (m r : Bool) (b a : ℕ) (s next : Step) → Leads k x z m r b a s next → next ≡ LastLook false → z ≡ Left
+glances-left k x z m r b a s next idles e = absurd (let u : _≡_ {A = ℕ} 0 1 = cc in omega arith)
+glances-left k x z m r b a s next (finds h) e = absurd (let u : _≡_ {A = ℕ} 0 1 = cc in omega arith)
+glances-left k x z m r b a s next (blocks h q) e = absurd (let u : _≡_ {A = ℕ} 0 1 = cc in omega arith)
+glances-left k x z m r b a s next (gives-up h q) e = absurd (let u : _≡_ {A = ℕ} 0 1 = cc in omega arith)
+glances-left k x z m r b a s next copies e = absurd (let u : _≡_ {A = ℕ} 0 1 = cc in omega arith)
+glances-left k x z m r b a s next spills e = absurd (let u : _≡_ {A = ℕ} 0 1 = cc in omega arith)
+glances-left k x z m r b a s next (tells h) e = absurd (let u : _≡_ {A = ℕ} 0 1 = cc in omega arith)
+glances-left k x z m r b a s next (stores h) e = absurd (let u : _≡_ {A = ℕ} 0 1 = cc in omega arith)
+glances-left k x z m r b a s next (owes h) e = absurd (let u : _≡_ {A = ℕ} 0 1 = cc in omega arith)
+glances-left k x z m r b a s next (passes h) e = absurd (let u : _≡_ {A = ℕ} 0 1 = cc in omega arith)
+glances-left k x z m r b a s next raises e = absurd (let u : _≡_ {A = ℕ} 0 1 = cc in omega arith)
+glances-left k x z m r b a s next wakes e = absurd (let u : _≡_ {A = ℕ} 0 1 = cc in omega arith)
+glances-left k x z m r b a s next (enters h o) e = absurd (not-last _ next o e)
+glances-left k x z m r b a s next (finds-spin h) e = absurd (let u : _≡_ {A = ℕ} 0 1 = cc in omega arith)
+glances-left k x z m r b a s next (spins h o) e = absurd (not-last _ next o e)
+glances-left k x z m r b a s next (stops h) e = absurd (let u : _≡_ {A = ℕ} 0 1 = cc in omega arith)
+glances-left k x z m r b a s next reads e = absurd (let u : _≡_ {A = ℕ} 0 1 = cc in omega arith)
+glances-left k x z m r b a s next (finds-again h) e = absurd (let u : _≡_ {A = ℕ} 0 1 = cc in omega arith)
+glances-left k x z m r b a s next (stays h) e = absurd (let u : _≡_ {A = ℕ} 0 1 = cc in omega arith)
+glances-left k x z m r b a s next (enters-again h) e = absurd (let u : _≡_ {A = ℕ} 0 1 = cc in omega arith)
+glances-left k x z m r b a s next (stops-again h) e = absurd (let u : _≡_ {A = ℕ} 0 1 = cc in omega arith)
+glances-left k x z m r b a s next (falls-asleep h) e = absurd (let u : _≡_ {A = ℕ} 0 1 = cc in omega arith)
+glances-left k x z m r b a s next returns e = absurd (let u : _≡_ {A = ℕ} 0 1 = cc in omega arith)
+glances-left k x z m r b a s next ends e = absurd (let u : _≡_ {A = ℕ} 0 1 = cc in omega arith)
+glances-left k x z m r b a s next dreams e = absurd (let u : _≡_ {A = ℕ} 0 1 = cc in omega arith)
+glances-left k x z m r b a s next (glances h) e = h
+glances-left k x z m r b a s next (glances-again h) e = h
+glances-left k x z m r b a s next times-out e = absurd (let u : _≡_ {A = ℕ} 0 1 = cc in omega arith)
+glances-left k x z m r b a s next (finds-last h) e = absurd (let u : _≡_ {A = ℕ} 0 1 = cc in omega arith)
+glances-left k x z m r b a s next (finds-none h) e = absurd (let u : _≡_ {A = ℕ} 0 1 = cc in omega arith)
+glances-left k x z m r b a s next (closes h) e = absurd (let u : _≡_ {A = ℕ} 0 1 = cc in omega arith)
+glances-left k x z m r b a s next (closes-alone h) e = absurd (let u : _≡_ {A = ℕ} 0 1 = cc in omega arith)
+glances-left k x z m r b a s next close-raises e = absurd (let u : _≡_ {A = ℕ} 0 1 = cc in omega arith)
+glances-left k x z m r b a s next close-wakes e = absurd (let u : _≡_ {A = ℕ} 0 1 = cc in omega arith)
+glances-left k x z m r b a s next shuts e = absurd (let u : _≡_ {A = ℕ} 0 1 = cc in omega arith)
+glances-left k x z m r b a s next shut-raises e = absurd (let u : _≡_ {A = ℕ} 0 1 = cc in omega arith)
+glances-left k x z m r b a s next shut-wakes e = absurd (let u : _≡_ {A = ℕ} 0 1 = cc in omega arith)
+glances-left k x z m r b a s next shut-raises-again e = absurd (let u : _≡_ {A = ℕ} 0 1 = cc in omega arith)
+glances-left k x z m r b a s next shut-wakes-again e = absurd (let u : _≡_ {A = ℕ} 0 1 = cc in omega arith)
+
+fewer : (m : ℕ) (t : Step) → Onward m t → (n : ℕ) → t ≡ Spin n → n < m
+fewer m t straight n e = absurd (let u : _≡_ {A = ℕ} 0 1 = cc in omega arith)
+fewer m t (around i) n e = let q : i ≡ n = cc in omega arith
+
+-- a turn leads to a spin that fewer follow than it spins
+pub spins-on : (k x : ℕ) (z : Door) (m r : Bool) (b a : ℕ) (s next : Step) → Leads k x z m r b a s next → ((i : ℕ) → s ≡ Spin i → i < a) → (n : ℕ) → next ≡ Spin n → n < a
+spins-on k x z m r b a s next idles f n e = absurd (let u : _≡_ {A = ℕ} 0 1 = cc in omega arith)
+spins-on k x z m r b a s next (finds h) f n e = absurd (let u : _≡_ {A = ℕ} 0 1 = cc in omega arith)
+spins-on k x z m r b a s next (blocks h q) f n e = absurd (let u : _≡_ {A = ℕ} 0 1 = cc in omega arith)
+spins-on k x z m r b a s next (gives-up h q) f n e = absurd (let u : _≡_ {A = ℕ} 0 1 = cc in omega arith)
+spins-on k x z m r b a s next copies f n e = absurd (let u : _≡_ {A = ℕ} 0 1 = cc in omega arith)
+spins-on k x z m r b a s next spills f n e = absurd (let u : _≡_ {A = ℕ} 0 1 = cc in omega arith)
+spins-on k x z m r b a s next (tells h) f n e = absurd (let u : _≡_ {A = ℕ} 0 1 = cc in omega arith)
+spins-on k x z m r b a s next (stores h) f n e = absurd (let u : _≡_ {A = ℕ} 0 1 = cc in omega arith)
+spins-on k x z m r b a s next (owes h) f n e = absurd (let u : _≡_ {A = ℕ} 0 1 = cc in omega arith)
+spins-on k x z m r b a s next (passes h) f n e = absurd (let u : _≡_ {A = ℕ} 0 1 = cc in omega arith)
+spins-on k x z m r b a s next raises f n e = absurd (let u : _≡_ {A = ℕ} 0 1 = cc in omega arith)
+spins-on k x z m r b a s next wakes f n e = absurd (let u : _≡_ {A = ℕ} 0 1 = cc in omega arith)
+spins-on k x z m r b a s next (enters h o) f n e = fewer _ next o n e
+spins-on k x z m r b a s next (finds-spin h) f n e = absurd (let u : _≡_ {A = ℕ} 0 1 = cc in omega arith)
+spins-on k x z m r b a s next (spins {n = i} h o) f n e = omega (arith, fewer _ next o n e, f i refl)
+spins-on k x z m r b a s next (stops h) f n e = absurd (let u : _≡_ {A = ℕ} 0 1 = cc in omega arith)
+spins-on k x z m r b a s next reads f n e = absurd (let u : _≡_ {A = ℕ} 0 1 = cc in omega arith)
+spins-on k x z m r b a s next (finds-again h) f n e = absurd (let u : _≡_ {A = ℕ} 0 1 = cc in omega arith)
+spins-on k x z m r b a s next (stays h) f n e = absurd (let u : _≡_ {A = ℕ} 0 1 = cc in omega arith)
+spins-on k x z m r b a s next (enters-again h) f n e = absurd (let u : _≡_ {A = ℕ} 0 1 = cc in omega arith)
+spins-on k x z m r b a s next (stops-again h) f n e = absurd (let u : _≡_ {A = ℕ} 0 1 = cc in omega arith)
+spins-on k x z m r b a s next (falls-asleep h) f n e = absurd (let u : _≡_ {A = ℕ} 0 1 = cc in omega arith)
+spins-on k x z m r b a s next returns f n e = absurd (let u : _≡_ {A = ℕ} 0 1 = cc in omega arith)
+spins-on k x z m r b a s next ends f n e = absurd (let u : _≡_ {A = ℕ} 0 1 = cc in omega arith)
+spins-on k x z m r b a s next dreams f n e = absurd (let u : _≡_ {A = ℕ} 0 1 = cc in omega arith)
+spins-on k x z m r b a s next (glances h) f n e = absurd (let u : _≡_ {A = ℕ} 0 1 = cc in omega arith)
+spins-on k x z m r b a s next (glances-again h) f n e = absurd (let u : _≡_ {A = ℕ} 0 1 = cc in omega arith)
+spins-on k x z m r b a s next times-out f n e = absurd (let u : _≡_ {A = ℕ} 0 1 = cc in omega arith)
+spins-on k x z m r b a s next (finds-last h) f n e = absurd (let u : _≡_ {A = ℕ} 0 1 = cc in omega arith)
+spins-on k x z m r b a s next (finds-none h) f n e = absurd (let u : _≡_ {A = ℕ} 0 1 = cc in omega arith)
+spins-on k x z m r b a s next (closes h) f n e = absurd (let u : _≡_ {A = ℕ} 0 1 = cc in omega arith)
+spins-on k x z m r b a s next (closes-alone h) f n e = absurd (let u : _≡_ {A = ℕ} 0 1 = cc in omega arith)
+spins-on k x z m r b a s next close-raises f n e = absurd (let u : _≡_ {A = ℕ} 0 1 = cc in omega arith)
+spins-on k x z m r b a s next close-wakes f n e = absurd (let u : _≡_ {A = ℕ} 0 1 = cc in omega arith)
+spins-on k x z m r b a s next shuts f n e = absurd (let u : _≡_ {A = ℕ} 0 1 = cc in omega arith)
+spins-on k x z m r b a s next shut-raises f n e = absurd (let u : _≡_ {A = ℕ} 0 1 = cc in omega arith)
+spins-on k x z m r b a s next shut-wakes f n e = absurd (let u : _≡_ {A = ℕ} 0 1 = cc in omega arith)
+spins-on k x z m r b a s next shut-raises-again f n e = absurd (let u : _≡_ {A = ℕ} 0 1 = cc in omega arith)
+spins-on k x z m r b a s next shut-wakes-again f n e = absurd (let u : _≡_ {A = ℕ} 0 1 = cc in omega arith)
 
 -- one's own close is counted by its own turn alone
 pub closed-by : (side : Side) (n : ℕ) (s : Step) (a : Access) → Does side n s a → (b : Bool) → (closedAfter (stanceOf s) b ≡ b) ⊎ (s ≡ CloseSet)

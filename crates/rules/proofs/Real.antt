@@ -12,8 +12,8 @@ use Rattle.types.specs.declared.Side.the-variants.{Sender, Recorder}
 use Rattle.types.specs.declared.Own.{Own}
 use Rattle.types.specs.declared.SlotHead.{SlotHead}
 use Rattle.types.specs.declared.Party.{Party}
-use Rattle.types.specs.declared.Step.the-variants.{Rest, LastLook}
-use Rattle.layout.specs.Limits.{capacity, payloadCapacity, totalBytes}
+use Rattle.types.specs.declared.Step.the-variants.{Rest, Spin, LastLook}
+use Rattle.layout.specs.Limits.{spinsOk, capacity, payloadCapacity, totalBytes}
 use Rattle.layout.specs.Flags.{worth, notFullOn, reservedFrom, bitOn, attachMark, closeMark}
 use Rattle.layout.specs.Header.{powerAt, slotSizeAt, flagsAt, counterAt, bellAt}
 use Rattle.layout.specs.Slots.{headWord, headOf, payloadIn}
@@ -117,8 +117,8 @@ module _ (P S v : ℕ) (on : Bool) where
   abbrev pub cap : ℕ
   cap = capacity P
 
-  abbrev pub sizes : Side → Own
-  sizes side = record { side = side; attached = true; power = P; slot = S; notfull = on }
+  abbrev pub sizes : Side → (spins : ℕ) → Own
+  sizes side spins = record { side = side; attached = true; power = P; slot = S; notfull = on; spins = spins }
 
   -- free slots for the sender, waiting notes for the recorder
   abbrev pub roomIn : Side → Trace → ℕ
@@ -127,8 +127,8 @@ module _ (P S v : ℕ) (on : Bool) where
 
   -- the slot of the i-th note holds it
   pub record HoldsAt (r : List ℕ) (i : ℕ) (n : Note) : Type 0 where
-    pub head : headOf (headWord (slotOf r (sizes Sender) (plus 64 v i))) ≡ noteHead n
-    pub payload : payloadIn (slotOf r (sizes Sender) (plus 64 v i)) (length (n .body)) ≡ n .body
+    pub head : headOf (headWord (slotOf r (sizes Sender 0) (plus 64 v i))) ≡ noteHead n
+    pub payload : payloadIn (slotOf r (sizes Sender 0) (plus 64 v i)) (length (n .body)) ≡ n .body
     pub body-fits : length (n .body) ≤ payloadCapacity S
 
   -- what a side at a store, or behind it, has in hand
@@ -160,13 +160,15 @@ module _ (P S v : ℕ) (on : Bool) where
   InHand Recorder leaving r t = Unit
 
   -- a seat: its flags tell whether it is taken and closed; who sits there has the sizes and the counter; an empty one rests;
-  -- one that has closed neither pushes nor pops; one at its last look for the other's close has seen that bit
+  -- one that has closed neither pushes nor pops; one at its last look for the other's close has seen that bit; its spin count is within the limit, and at a spin fewer follow
   pub record Seated (side : Side) (p : Party) (t : Trace) (flags : ℕ) : Type 0 where
     pub closed-bit : bitOn (worth (closeMark side)) flags ≡ p .closed
     pub attached-bit : bitOn (worth (attachMark side)) flags ≡ p .own .attached
-    pub in-place : p .own .attached ≡ true → (p .own ≡ sizes side) × (p .counter ≡ plus 64 v (countOf side t))
+    pub in-place : p .own .attached ≡ true → (p .own ≡ sizes side (p .own .spins)) × (p .counter ≡ plus 64 v (countOf side t))
     pub empty : p .own .attached ≡ false → (p .step ≡ Rest) × (p .closed ≡ false)
     pub over : p .closed ≡ true → parts (phase (p .step)) ≡ true
+    pub few : spinsOk (p .own .spins) ≡ true
+    pub spun : (n : ℕ) → p .step ≡ Spin n → n < p .own .spins
     pub heard : p .step ≡ LastLook false → bitOn (worth (closeMark (other side))) flags ≡ true
 
   -- the header's fixed words

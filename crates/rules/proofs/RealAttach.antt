@@ -13,10 +13,10 @@ use Rattle.types.specs.declared.Side.the-variants.{Sender, Recorder}
 use Rattle.types.specs.declared.Party.{Party}
 use Rattle.types.specs.declared.Access.{Access}
 use Rattle.types.specs.declared.Access.the-variants.{SetFlag}
-use Rattle.layout.specs.Limits.{powerOk, slotOk}
+use Rattle.layout.specs.Limits.{powerOk, slotOk, spinsOk}
 use Rattle.layout.specs.Flags.{worth, bitOn, setBit, attachMark, closeMark}
 use Rattle.layout.specs.Header.{flagsAt, counterAt, bellAt}
-use Rattle.layout.specs.Attach.{flagChecks, ringChecks, attachChecks, attachAnswer, attachReply, attachLeaves, attached}
+use Rattle.layout.specs.Attach.{flagChecks, ringChecks, regionChecks, attachChecks, attachAnswer, attachReply, attachLeaves, attached}
 use Rattle.layout.proofs.FlagLaws.{mark-set}
 use Rattle.rules.specs.Sides.{other, sleepBell}
 use Rattle.rules.specs.Access.{leavesOf}
@@ -49,10 +49,15 @@ not-true : (b : Bool) → not b ≡ true → b ≡ false
 not-true true e = sym e
 not-true false e = refl
 
+-- an accepted count is within the limit
+pub count-few : (r : List ℕ) (side : Side) (spins : ℕ) → eqb (number (attachAnswer r side spins)) 0 ≡ true → spinsOk spins ≡ true
+unfolding attachAnswer attachChecks regionChecks ringChecks flagChecks
+count-few r side spins e = done-test (attachChecks r side spins) tt e 0
+
 -- an accepted side's bit was clear
-pub bit-clear : (r : List ℕ) (side : Side) → eqb (number (attachAnswer r side)) 0 ≡ true → bitOn (worth (attachMark side)) (leAt 4 r flagsAt) ≡ false
-unfolding attachAnswer attachChecks ringChecks flagChecks
-bit-clear r side e = not-true (bitOn (worth (attachMark side)) (leAt 4 r flagsAt)) (done-test (attachChecks r side) tt e 11)
+pub bit-clear : (r : List ℕ) (side : Side) (spins : ℕ) → eqb (number (attachAnswer r side spins)) 0 ≡ true → bitOn (worth (attachMark side)) (leAt 4 r flagsAt) ≡ false
+unfolding attachAnswer attachChecks regionChecks ringChecks flagChecks
+bit-clear r side spins e = not-true (bitOn (worth (attachMark side)) (leAt 4 r flagsAt)) (done-test (attachChecks r side spins) tt e 12)
 
 module _ (P S v : ℕ) (on : Bool) (power-ok : powerOk P ≡ true) (slot-ok : slotOk S ≡ true) (w : World) (real : Real P S v on w) (side : Side) where
   abbrev r : List ℕ
@@ -146,6 +151,8 @@ module _ (P S v : ℕ) (on : Bool) (power-ok : powerOk P ≡ true) (slot-ok : sl
               in-place = h .seat .in-place;
               empty = h .seat .empty;
               over = h .seat .over;
+              few = h .seat .few;
+              spun = h .seat .spun;
               heard = λ e. rw flags-left (close-kept (other (other side)) side ∙ h .seat .heard e);
             };
         since = rw (bells (other side)) (h .since);
@@ -155,11 +162,11 @@ module _ (P S v : ℕ) (on : Bool) (power-ok : powerOk P ≡ true) (slot-ok : sl
         bell-small = rw (bells (other side)) (h .bell-small);
       }
 
-  module _ (accepted : eqb (number (attachAnswer r side)) 0 ≡ true) where
+  module _ (spins : ℕ) (accepted : eqb (number (attachAnswer r side spins)) 0 ≡ true) where
     nobody : p .own .attached ≡ false
-    nobody = sym (real .sides side .seat .attached-bit) ∙ bit-clear r side accepted
+    nobody = sym (real .sides side .seat .attached-bit) ∙ bit-clear r side spins accepted
 
-    newcomer : Side-good P S v on side left (attached r side) (w .trace)
+    newcomer : Side-good P S v on side left (attached r side spins) (w .trace)
     newcomer =
         let h = real .sides side in
         let f = real .fixed in
@@ -172,6 +179,8 @@ module _ (P S v : ℕ) (on : Bool) (power-ok : powerOk P ≡ true) (slot-ok : sl
                 in-place = λ e. (rw (f .power-at, f .slot-at, f .option), h .word);
                 empty = λ e. absurd (let z : _≡_ {A = ℕ} 0 1 = cc in omega arith);
                 over = λ e. refl;
+                few = count-few r side spins accepted;
+                spun = λ n e. absurd (let z : _≡_ {A = ℕ} 0 1 = cc in omega arith);
                 heard = λ e. absurd (let z : _≡_ {A = ℕ} 0 1 = cc in omega arith);
               };
           since = tt;
@@ -181,20 +190,20 @@ module _ (P S v : ℕ) (on : Bool) (power-ok : powerOk P ≡ true) (slot-ok : sl
           bell-small = rw (bells side) (h .bell-small);
         }
 
-  abbrev pub attachWorld : World
-  attachWorld = record { region = attachLeaves r side; bench = attachSeats w side; trace = w .trace }
+  abbrev pub attachWorld : (spins : ℕ) → World
+  attachWorld spins = record { region = attachLeaves r side spins; bench = attachSeats w side spins; trace = w .trace }
 
-  pub real-attached : Real P S v on attachWorld
+  pub real-attached : (spins : ℕ) → Real P S v on (attachWorld spins)
   unfolding attachLeaves attachReply leavesOf
-  real-attached = by (eqb (number (attachAnswer r side)) 0) refl
+  real-attached spins = by (eqb (number (attachAnswer r side spins)) 0) refl
     where
-      by : (b : Bool) → eqb (number (attachAnswer r side)) 0 ≡ b → Real P S v on attachWorld
+      by : (b : Bool) → eqb (number (attachAnswer r side spins)) 0 ≡ b → Real P S v on (attachWorld spins)
       by false e = rw e real
       by true e =
           rw e record {
             fixed = fixed-kept P S v on r p [] (real .fixed) a;
             queue = queue-left;
-            sides = both-sides side (λ τ. Side-good P S v on τ left (partyOf (seat (w .bench) side (attached r side)) τ) (w .trace))
-                (subst (λ (x : Party). Side-good P S v on side left x (w .trace)) (sym (seat-one side (w .bench) (attached r side))) (newcomer e))
-                (subst (λ (x : Party). Side-good P S v on (other side) left x (w .trace)) (sym (seat-two side (w .bench) (attached r side))) other-left);
+            sides = both-sides side (λ τ. Side-good P S v on τ left (partyOf (seat (w .bench) side (attached r side spins)) τ) (w .trace))
+                (subst (λ (x : Party). Side-good P S v on side left x (w .trace)) (sym (seat-one side (w .bench) (attached r side spins))) (newcomer spins e))
+                (subst (λ (x : Party). Side-good P S v on (other side) left x (w .trace)) (sym (seat-two side (w .bench) (attached r side spins))) other-left);
           }

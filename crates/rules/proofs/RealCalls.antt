@@ -13,7 +13,7 @@ use Rattle.types.specs.declared.Party.{Party}
 use Rattle.types.specs.declared.Reply.{Reply}
 use Rattle.types.specs.declared.Bench.{Bench}
 use Rattle.types.specs.declared.Step.{Step}
-use Rattle.types.specs.declared.Step.the-variants.{Rest, Look, Asleep, LastLook, CloseSet, ShutSet}
+use Rattle.types.specs.declared.Step.the-variants.{Rest, Look, Asleep, LastLook, Spin, CloseSet, ShutSet}
 use Rattle.types.specs.declared.Answer.the-variants.{GoesOn}
 use Rattle.layout.specs.Limits.{payloadCapacity}
 use Rattle.rules.specs.Sides.{other}
@@ -185,13 +185,20 @@ idle-free s glances = tt
 idle-free s closes = tt
 idle-free s shuts = tt
 
--- no call begins at the last look for a close
+-- no call begins at the last look for a close, or at a spin
 idle-last : (s : Step) → Idle s → s ≡ LastLook false → ⊥
 idle-last s rests e = let z : _≡_ {A = ℕ} 0 1 = cc in omega arith
 idle-last s looks e = let z : _≡_ {A = ℕ} 0 1 = cc in omega arith
 idle-last s glances e = let z : _≡_ {A = ℕ} 0 1 = cc in omega arith
 idle-last s closes e = let z : _≡_ {A = ℕ} 0 1 = cc in omega arith
 idle-last s shuts e = let z : _≡_ {A = ℕ} 0 1 = cc in omega arith
+
+idle-spin : (s : Step) → Idle s → (n : ℕ) → s ≡ Spin n → ⊥
+idle-spin s rests n e = let z : _≡_ {A = ℕ} 0 1 = cc in omega arith
+idle-spin s looks n e = let z : _≡_ {A = ℕ} 0 1 = cc in omega arith
+idle-spin s glances n e = let z : _≡_ {A = ℕ} 0 1 = cc in omega arith
+idle-spin s closes n e = let z : _≡_ {A = ℕ} 0 1 = cc in omega arith
+idle-spin s shuts n e = let z : _≡_ {A = ℕ} 0 1 = cc in omega arith
 
 module _ (P S v : ℕ) (on : Bool) where
   -- a call of a side
@@ -218,11 +225,13 @@ module _ (P S v : ℕ) (on : Bool) where
                 record {
                   closed-bit = h .seat .closed-bit ∙ sym (b .closed);
                   attached-bit = h .seat .attached-bit ∙ sym (ap (λ (o : Own). o .attached) (b .own));
-                  in-place = λ e. (b .own ∙ (h .seat .in-place (b .attached)) .0, b .counter ∙ (h .seat .in-place (b .attached)) .1);
+                  in-place = λ e. (rw (b .own) ((h .seat .in-place (b .attached)) .0), b .counter ∙ (h .seat .in-place (b .attached)) .1);
                   empty = λ e.
                       let f : q .own .attached ≡ true = ap (λ (o : Own). o .attached) (b .own) ∙ b .attached in
                       absurd (let z : _≡_ {A = ℕ} 0 1 = cc in omega arith);
                   over = λ e. b .over (sym (b .closed) ∙ e) (h .seat .over (sym (b .closed) ∙ e));
+                  few = rw (b .own) (h .seat .few);
+                  spun = λ n e. absurd (idle-spin (q .step) (b .idle) n e);
                   heard = λ e. absurd (idle-last (q .step) (b .idle) e);
                 };
             since = idle-since (q .step) _ _ (b .idle);

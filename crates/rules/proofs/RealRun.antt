@@ -15,7 +15,7 @@ use Rattle.types.specs.declared.Party.{Party}
 use Rattle.types.specs.declared.Fault.{Fault}
 use Rattle.types.specs.declared.Fault.the-variants.{Fine, Error}
 use Rattle.types.specs.declared.Event.the-variants.{Turn, Failing, Spurious, TimeOut, Push, Pop, Close, Shutdown}
-use Rattle.layout.specs.Limits.{powerOk, slotOk, capacity, ringBytes, totalBytes}
+use Rattle.layout.specs.Limits.{powerOk, slotOk, spinsOk, capacity, ringBytes, totalBytes}
 use Rattle.layout.specs.Flags.{worth, notFullOn, reservedFrom, bitOn, attachMark, closeMark}
 use Rattle.layout.specs.Header.{flagsAt, counterAt, bellAt}
 use Rattle.layout.specs.Create.{firstFlags, created}
@@ -38,12 +38,12 @@ use Rattle.rules.proofs.Real.{Side-good, Real}
 module _ (P S v : ℕ) (on : Bool) (power-ok : powerOk P ≡ true) (slot-ok : slotOk S ≡ true) where
   -- whatever happens is an attach, a turn, or a call that changes its own party's record or nothing
   pub happens-by : (F : World → Type 0) (h : Happening) (w : World) → Typed h → (real : Real P S v on w)
-      → ((side : Side) → F (attachWorld P S v on power-ok slot-ok w real side))
+      → ((side : Side) (spins : ℕ) → F (attachWorld P S v on power-ok slot-ok w real side spins))
       → ((side : Side) (payload lent : List ℕ) (fault : Fault) → F (turnWorld w side payload lent fault))
       → ((side : Side) (q : Party) → Changed side (partyIn w side) q → F (seated P S v on w side q))
       → F (happens h w)
   unfolding happens played playedLeaves settled
-  happens-by F (attaches side) w y real a t c = a side
+  happens-by F (attaches side spins) w y real a t c = a side spins
   happens-by F (plays (Turn side) i o) w y real a t c = t side i o Fine
   happens-by F (plays (Failing side e) i o) w y real a t c = t side i o (Error e)
   happens-by F (plays (Spurious side) i o) w y real a t c = c side (spuriousSpec side (partyIn w side) .party) (spurious-changes side (partyIn w side))
@@ -108,6 +108,10 @@ module _ (r : List ℕ) (P S : ℕ) (on : Bool) (v : ℕ) (fresh : Fresh r P S o
   unfolding created
   bell-starts side = headed-bell r (ringBytes P S) P S (firstFlags on) v made (sleepBell side)
 
+  none-few : spinsOk 0 ≡ true
+  unfolding spinsOk
+  none-few = refl
+
   side-starts : (side : Side) → Side-good P S v on side region (partyIn (opened region) side) (opened region .trace)
   side-starts Sender =
       record {
@@ -119,6 +123,8 @@ module _ (r : List ℕ) (P S : ℕ) (on : Bool) (v : ℕ) (fresh : Fresh r P S o
               in-place = λ e. absurd (let z : _≡_ {A = ℕ} 0 1 = cc in omega arith);
               empty = λ e. (refl, refl);
               over = λ e. refl;
+              few = none-few;
+              spun = λ n e. absurd (let z : _≡_ {A = ℕ} 0 1 = cc in omega arith);
               heard = λ e. absurd (let z : _≡_ {A = ℕ} 0 1 = cc in omega arith);
             };
         since = tt;
@@ -137,6 +143,8 @@ module _ (r : List ℕ) (P S : ℕ) (on : Bool) (v : ℕ) (fresh : Fresh r P S o
               in-place = λ e. absurd (let z : _≡_ {A = ℕ} 0 1 = cc in omega arith);
               empty = λ e. (refl, refl);
               over = λ e. refl;
+              few = none-few;
+              spun = λ n e. absurd (let z : _≡_ {A = ℕ} 0 1 = cc in omega arith);
               heard = λ e. absurd (let z : _≡_ {A = ℕ} 0 1 = cc in omega arith);
             };
         since = tt;

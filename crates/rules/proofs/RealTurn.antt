@@ -18,7 +18,7 @@ use Rattle.types.specs.declared.Party.{Party}
 use Rattle.types.specs.declared.Fault.{Fault}
 use Rattle.types.specs.declared.Woke.{Woke}
 use Rattle.types.specs.declared.Step.{Step}
-use Rattle.types.specs.declared.Step.the-variants.{Rest, Look, Copy, Publish, Check, Raise, Wake, Gate, Epoch, Again, GateAgain, Wait, Asleep, LastLook, CloseSet, CloseRaise, CloseWake, ShutSet, ShutRaiseNe, ShutWakeNe, ShutRaiseNf, ShutWakeNf}
+use Rattle.types.specs.declared.Step.the-variants.{Rest, Look, Copy, Publish, Check, Raise, Wake, Gate, Spin, Epoch, Again, GateAgain, Wait, Asleep, LastLook, CloseSet, CloseRaise, CloseWake, ShutSet, ShutRaiseNe, ShutWakeNe, ShutRaiseNf, ShutWakeNf}
 use Rattle.types.specs.declared.Move.{Move}
 use Rattle.types.specs.declared.Access.{Access}
 use Rattle.types.specs.declared.Access.the-variants.{WriteSlot, ReadSlot}
@@ -71,7 +71,7 @@ module _ (P S v : ℕ) (on : Bool) (power-ok : powerOk P ≡ true) (slot-ok : sl
     checks Sender = sender-checks (capacity P) v (length (t .sent)) (length (t .delivered)) (queue .below) (queue .above) small
     checks Recorder = recorder-checks (capacity P) v (length (t .sent)) (length (t .delivered)) (queue .below) (queue .above) small
 
-    pub tells-at : (own : Own) (c val : ℕ) → own ≡ sizes P S v on side → c ≡ plus 64 v (countOf side t) → (s : Step) → val ≡ valueOf r own (nextAt s side c)
+    pub tells-at : (own : Own) (c val : ℕ) → own ≡ sizes P S v on side (own .spins) → c ≡ plus 64 v (countOf side t) → (s : Step) → val ≡ valueOf r own (nextAt s side c)
         → Tells own (roomIn P S v on side t) (roomIn P S v on (other side) t) (doorOf side (leAt 4 r flagsAt)) (leAt 4 r (bellAt (sleepBell side))) c val s
     unfolding valueOf
     tells-at own c val o h Rest e = tt
@@ -82,6 +82,7 @@ module _ (P S v : ℕ) (on : Bool) (power-ok : powerOk P ≡ true) (slot-ok : sl
     tells-at own c val o h (Raise l g) e = tt
     tells-at own c val o h (Wake l g) e = tt
     tells-at own c val o h Gate e = rw (o, e)
+    tells-at own c val o h (Spin n) e = rw (o, h, e ∙ words (other side)) (sees side)
     tells-at own c val o h Epoch e = e
     tells-at own c val o h (Again n) e = rw (o, h, e ∙ words (other side)) (sees side)
     tells-at own c val o h (GateAgain n) e = rw (o, e)
@@ -110,7 +111,7 @@ module _ (P S v : ℕ) (on : Bool) (power-ok : powerOk P ≡ true) (slot-ok : sl
     abbrev mine : Side-good P S v on side r p t
     mine = real .sides side
 
-    pub own-is : p .own ≡ sizes P S v on side
+    pub own-is : p .own ≡ sizes P S v on side (p .own .spins)
     own-is = (mine .seat .in-place (attached-here w side payload lent fault g)) .0
 
     pub counter-is : p .counter ≡ plus 64 v (countOf side t)
@@ -137,10 +138,10 @@ module _ (P S v : ℕ) (on : Bool) (power-ok : powerOk P ≡ true) (slot-ok : sl
     tells-here = tells-at side r t (real .queue) words (p .own) (p .counter) value own-is counter-is (p .step) (ap (valueOf r (p .own)) access-is)
 
     -- where the turn leads
-    pub leads-here : Leads (roomIn P S v on side t) (roomIn P S v on (other side) t) (doorOf side (leAt 4 r flagsAt)) (p .blocking) (rings side on) (leAt 4 r (bellAt (sleepBell side))) (p .step) next-step
+    pub leads-here : Leads (roomIn P S v on side t) (roomIn P S v on (other side) t) (doorOf side (leAt 4 r flagsAt)) (p .blocking) (rings side on) (leAt 4 r (bellAt (sleepBell side))) (p .own .spins) (p .step) next-step
     unfolding moveOf
     leads-here =
-        subst (λ (o : Own). Leads (roomIn P S v on side t) (roomIn P S v on (other side) t) (doorOf side (leAt 4 r flagsAt)) (p .blocking) (rings (o .side) (o .notfull)) (leAt 4 r (bellAt (sleepBell side))) (p .step) next-step)
+        subst (λ (o : Own). Leads (roomIn P S v on side t) (roomIn P S v on (other side) t) (doorOf side (leAt 4 r flagsAt)) (p .blocking) (rings (o .side) (o .notfull)) (leAt 4 r (bellAt (sleepBell side))) (p .own .spins) (p .step) next-step)
         own-is
         (leads (p .own) (roomIn P S v on side t) (roomIn P S v on (other side) t) (doorOf side (leAt 4 r flagsAt)) (leAt 4 r (bellAt (sleepBell side))) (p .counter) (p .blocking) (p .length) value (errorOf fault) (p .step) tells-here)
 
@@ -179,7 +180,7 @@ module _ (P S v : ℕ) (on : Bool) (power-ok : powerOk P ≡ true) (slot-ok : sl
         queue-kept P S v on power-ok slot-ok r p payload (real .fixed) t buffer (real .queue) side (p .step) a refl own-is counter-is d fits (mine .room) (mine .hand)
 
     -- the hand after a copy
-    copy-hand : (σ : Side) (own : Own) (c val : ℕ) → own ≡ sizes P S v on σ → c ≡ plus 64 v (countOf σ t) → val ≡ valueOf r own (slotAccess σ c)
+    copy-hand : (σ : Side) (own : Own) (c val : ℕ) → own ≡ sizes P S v on σ (own .spins) → c ≡ plus 64 v (countOf σ t) → val ≡ valueOf r own (slotAccess σ c)
         → (σ ≡ Sender → length payload ≤ payloadCapacity S) → (σ ≡ Recorder → length lent ≡ p .length) → HasRoom copying (roomIn P S v on σ t) → (buffer : List ℕ) → buffer ≡ bufferOf r own (slotAccess σ c) (p .length) lent
         → InHand P S v on σ (phase (stepAfter (copyMove own (p .length) val) Copy)) (leavesOf r own (slotAccess σ c) (p .tag) payload) (traced (slotAccess σ c) p payload buffer t)
     copy-hand Sender own c val o h e f l k b q =
@@ -199,7 +200,7 @@ module _ (P S v : ℕ) (on : Bool) (power-ok : powerOk P ≡ true) (slot-ok : sl
       where
         by : (p .step ≡ Copy) ⊎ (p .step ≡ Copy → ⊥) → InHand P S v on side (phase next-step) left told
         by (inr n) =
-            hand-own P S v on power-ok slot-ok r p payload (real .fixed) t buffer (real .queue) side _ _ _ _ _ _ (p .step) next-step refl n leads-here (mine .hand)
+            hand-own P S v on power-ok slot-ok r p payload (real .fixed) t buffer (real .queue) side _ _ _ _ _ _ _ (p .step) next-step refl n leads-here (mine .hand)
         by (inl q) =
             subst (λ (s : Step). InHand P S v on side (phase (stepAfter (moveAt s (p .own) (p .counter) (p .blocking) (p .length) value (errorOf fault)) s)) (leavesOf r (p .own) (nextAt s side (p .counter)) (p .tag) payload)
             (traced (nextAt s side (p .counter)) p payload (bufferOf r (p .own) (nextAt s side (p .counter)) (p .length) lent) t))
@@ -219,8 +220,8 @@ module _ (P S v : ℕ) (on : Bool) (power-ok : powerOk P ≡ true) (slot-ok : sl
               ∙ ap (counterAfter (stanceOf (p .step))) counter-is
               ∙ counts-own P S v on r p payload (real .fixed) t buffer side (p .step) a d;
           seat = seated-own P S v on r p payload (real .fixed) t buffer side _ _ _ _ _ (p .step) next-step a refl (attached-here w side payload lent fault g) d leads-here (mine .seat);
-          since = since-own P S v on r p payload (real .fixed) t buffer side _ _ _ _ _ (p .step) next-step leads-here (mine .since);
-          room = room-own P S v on power-ok slot-ok r p payload (real .fixed) t buffer (real .queue) side _ _ _ _ _ (p .step) next-step leads-here (mine .room);
+          since = since-own P S v on r p payload (real .fixed) t buffer side _ _ _ _ _ _ (p .step) next-step leads-here (mine .since);
+          room = room-own P S v on power-ok slot-ok r p payload (real .fixed) t buffer (real .queue) side _ _ _ _ _ _ (p .step) next-step leads-here (mine .room);
           hand = hand-after;
           tag-small = mine .tag-small;
           bell-small = bell-left side (mine .bell-small);

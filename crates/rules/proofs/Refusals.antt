@@ -20,7 +20,7 @@ use Rattle.types.specs.declared.Answer.the-variants.{Done, InvalidMagic, Unsupp
 use Rattle.words.proofs.Runs.{and-right}
 use Rattle.layout.specs.Limits.{payloadCapacity}
 use Rattle.layout.specs.Create.{createChecks, createAnswer, createLeaves}
-use Rattle.layout.specs.Attach.{attached as joined, unattached, flagChecks, ringChecks, attachChecks, attachAnswer, attachReply, attachLeaves}
+use Rattle.layout.specs.Attach.{attached as joined, unattached, flagChecks, ringChecks, regionChecks, attachChecks, attachAnswer, attachReply, attachLeaves}
 use Rattle.rules.specs.Take.{stanceOf}
 use Rattle.rules.specs.Calls.{isResting, isSleeping, sound, ready, reply, at, named, begins, rouses, pushSpec, popSpec, closeSpec, shutSpec, spuriousSpec, timeoutSpec}
 use Rattle.rules.specs.Turn.{taken, refused, turnSpec, turnLeaves, turnBuffer}
@@ -133,9 +133,9 @@ create-refused : (r : List ℕ) (power slot : ℕ) (notfull : Bool) (start : ℕ
 unfolding createLeaves createAnswer
 create-refused r power slot notfull start y e t = (rw (e, refusal-number y t), tt)
 
-attach-refused : (r : List ℕ) (side : Side) (y : Answer) → firstOf (attachChecks r side) ≡ y → T (refuses y) → Unchanged (attach r side)
+attach-refused : (r : List ℕ) (side : Side) (spins : ℕ) (y : Answer) → firstOf (attachChecks r side spins) ≡ y → T (refuses y) → Unchanged (attach r side spins)
 unfolding attachLeaves attachReply attachAnswer
-attach-refused r side y e t = (rw (e, refusal-number y t), rw (e, refusal-number y t))
+attach-refused r side spins y e t = (rw (e, refusal-number y t), rw (e, refusal-number y t))
 
 -- the tests of a begin and of a rouse, and what they lead to
 record Tests : Type 0 where
@@ -205,14 +205,14 @@ either-rests : (b : Bool) (p q : Party) → p .step ≡ Rest → q .step ≡ Res
 either-rests true p q h k = h
 either-rests false p q h k = k
 
-attach-rests : (r : List ℕ) (side : Side) → AtRest (attach r side)
+attach-rests : (r : List ℕ) (side : Side) (spins : ℕ) → AtRest (attach r side spins)
 unfolding attachReply
-attach-rests r side = either-rests (eqb (number (attachAnswer r side)) 0) (joined r side) (unattached side) refl refl
+attach-rests r side spins = either-rests (eqb (number (attachAnswer r side spins)) 0) (joined r side spins) (unattached side) refl refl
 
 given-leaves : {a : Ask} {x : Answer} → Given a x → Leaves x a
-unfolding attachChecks ringChecks flagChecks pushSpec popSpec closeSpec shutSpec spuriousSpec timeoutSpec
+unfolding attachChecks regionChecks ringChecks flagChecks pushSpec popSpec closeSpec shutSpec spuriousSpec timeoutSpec
 given-leaves (created {r} {power} {slot} {notfull} {start} c) = checked-leaves (create r power slot notfull start) tt tt (create-refused r power slot notfull start) c
-given-leaves (attached {r} {side} c) = checked-leaves (attach r side) tt (attach-rests r side) (attach-refused r side) c
+given-leaves (attached {r} {side} {spins} c) = checked-leaves (attach r side spins) tt (attach-rests r side spins) (attach-refused r side spins) c
 given-leaves (push-bad {p} {b} {t} {l} h) = (tt, party-of (bad-begin p (push-tests p b t l) h))
 given-leaves (pop-bad {p} {b} {l} h) = (tt, party-of (bad-begin p (pop-tests p b l) h))
 given-leaves (close-bad {side} {p} h) = (tt, party-of (bad-begin p (own-tests side p (p .closed) CloseSet) h))

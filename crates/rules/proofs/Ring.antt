@@ -52,7 +52,7 @@ module _ (P S v : ℕ) (on : Bool) (power-ok : powerOk P ≡ true) (slot-ok : sl
 
     -- a slot that the access does not write holds what it held
     pub slot-kept : (c : ℕ) (a : Access) → Elsewhere r (p .own) (p .tag) payload (header-in P S v on r p payload fixed) a (slotAt P S c) S
-        → slotOf (left a) (sizes P S v on Sender) c ≡ slotOf r (sizes P S v on Sender) c
+        → slotOf (left a) (sizes P S v on Sender 0) c ≡ slotOf r (sizes P S v on Sender 0) c
     slot-kept c a e =
         part-after r (p .own) (p .tag) payload (header-in P S v on r p payload fixed) (slotAt P S c) S (slot-behind P power-ok S c)
         (omega (arith, slot-within P power-ok S c, fixed .long)) a e
@@ -68,7 +68,7 @@ module _ (P S v : ℕ) (on : Bool) (power-ok : powerOk P ≡ true) (slot-ok : sl
         }
 
     -- the slot that a push writes is none of the waiting ones
-    pub written-elsewhere : (c i j : ℕ) → p .own ≡ sizes P S v on Sender → c ≡ plus 64 v j → i < j → j < i + capacity P → slotHeadBytes + length payload ≤ S
+    pub written-elsewhere : (c i j : ℕ) → p .own ≡ sizes P S v on Sender (p .own .spins) → c ≡ plus 64 v j → i < j → j < i + capacity P → slotHeadBytes + length payload ≤ S
         → Elsewhere r (p .own) (p .tag) payload (header-in P S v on r p payload fixed) (WriteSlot c) (slotAt P S (plus 64 v i)) S
     written-elsewhere c i j o e h l f =
         let far : Apart (slotAt P S c) S (slotAt P S (plus 64 v i)) S = slots-apart P S (plus 64 v i) c (λ q. places-differ i j h l (q ∙ ap (λ (x : ℕ). x % capacity P) e)) in

@@ -54,15 +54,15 @@ module _ (P S v : ℕ) (on : Bool) (notes : List Note) where
 
   module _ (power-ok : powerOk P ≡ true) (slot-ok : slotOk S ≡ true) (w : World) (real : Real P S v on w) (y : Sealed notes w) where
     -- whoever attaches finds its seat empty
-    sealed-attached : (side : Side) → Sealed notes (attachWorld P S v on power-ok slot-ok w real side)
+    sealed-attached : (side : Side) (spins : ℕ) → Sealed notes (attachWorld P S v on power-ok slot-ok w real side spins)
     unfolding attachLeaves attachReply
-    sealed-attached side = by side (eqb (number (attachAnswer (w .region) side)) 0) refl
+    sealed-attached side spins = by side (eqb (number (attachAnswer (w .region) side spins)) 0) refl
       where
-        by : (side : Side) (b : Bool) → eqb (number (attachAnswer (w .region) side)) 0 ≡ b → Sealed notes (attachWorld P S v on power-ok slot-ok w real side)
+        by : (side : Side) (b : Bool) → eqb (number (attachAnswer (w .region) side spins)) 0 ≡ b → Sealed notes (attachWorld P S v on power-ok slot-ok w real side spins)
         by side false e = rw e record { closed = y .closed; same = y .same }
         by Sender true e =
             let h = real .sides Sender .seat in
-            let f = (h .empty (sym (h .attached-bit) ∙ bit-clear (w .region) Sender e)) .1 in
+            let f = (h .empty (sym (h .attached-bit) ∙ bit-clear (w .region) Sender spins e)) .1 in
             absurd (let q = sym (y .closed) ∙ f in let z : _≡_ {A = ℕ} 0 1 = cc in omega arith)
         by Recorder true e = rw e record { closed = y .closed; same = y .same }
 

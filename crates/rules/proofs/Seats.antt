@@ -3,7 +3,7 @@ use mathlib.Core.Path.{_≡_, refl, sym, ap, _∙_}
 use mathlib.Core.Bool.{Bool, true, false, _&&_}
 use mathlib.Core.List.{List}
 use mathlib.Core.Logic.{_⊎_, inl, inr, ⊎-elim}
-use Prim.Native.Nat.{ℕ, _+_, _%_, _^_}
+use Prim.Native.Nat.{ℕ, _+_, _%_, _^_, _<_}
 use native.Mathlib.Omega.{arith}
 use native.Mathlib.Nat.{mod-add-mod, mod-mod, add-zero, add-assoc}
 use Rattle.words.specs.Le.{leAt}
@@ -20,7 +20,7 @@ use Rattle.types.specs.declared.Mark.the-variants.{Shutdown as ShutMark}
 use Rattle.types.specs.declared.Door.{Door}
 use Rattle.types.specs.declared.Door.the-variants.{Shut, Left, Open}
 use Rattle.types.specs.declared.Step.{Step}
-use Rattle.types.specs.declared.Step.the-variants.{Rest, Look, Epoch, Asleep, LastLook}
+use Rattle.types.specs.declared.Step.the-variants.{Rest, Look, Spin, Epoch, Asleep, LastLook}
 use Rattle.types.specs.declared.Access.{Access}
 use Rattle.layout.specs.Flags.{worth, bitOn, closeMark}
 use Rattle.layout.specs.Header.{flagsAt, bellAt}
@@ -36,8 +36,8 @@ use Rattle.rules.specs.Phase.{Phase, resting, looking, copying, publishi
 use Rattle.rules.proofs.Views.{sleeping-step}
 use Rattle.rules.proofs.After.{bellBy, bell-after}
 use Rattle.rules.proofs.Does.{Does, nothing, looks, flags, reads as epoch, writes, takes, stores as store, raises as ring, closes as close, shuts as shut, waits as wait, wakes as wake}
-use Rattle.rules.proofs.Leads.{Leads, idles, finds, blocks, gives-up, copies, spills, tells, stores, owes, passes, raises, wakes, enters, stops, reads, finds-again, stays, enters-again, stops-again, sleeps, returns, ends, dreams, glances, glances-again, times-out, finds-last, finds-none, closes, closes-alone, close-raises, close-wakes, shuts, shut-raises, shut-wakes, shut-raises-again, shut-wakes-again}
-use Rattle.rules.proofs.Parting.{parts-on, glances-left, closed-by}
+use Rattle.rules.proofs.Leads.{asks, Leads, idles, finds, blocks, gives-up, copies, spills, tells, stores, owes, passes, raises, wakes, enters, stops, finds-spin, spins, reads, finds-again, stays, enters-again, stops-again, sleeps, returns, ends, dreams, glances, glances-again, times-out, finds-last, finds-none, closes, closes-alone, close-raises, close-wakes, shuts, shut-raises, shut-wakes, shut-raises-again, shut-wakes-again}
+use Rattle.rules.proofs.Parting.{parts-on, glances-left, spins-on, closed-by}
 use Rattle.rules.proofs.Kept.{header-in, flag-up, flags-are, attach-bit, close-bit-own, close-bit-other, counts-own, counts-other}
 use Rattle.rules.proofs.Real.{parts, Since, Seated, Fixed}
 
@@ -123,15 +123,17 @@ module _ (P S v : ℕ) (on : Bool) (r : List ℕ) (p : Party) (payload : List �
   told a = traced a p payload buffer t
 
   pub seated-own : (side : Side) (k x : ℕ) (m rg : Bool) (b : ℕ) (s next : Step) (a : Access) → p .step ≡ s → p .own .attached ≡ true → Does side (p .counter) s a
-      → Leads k x (doorOf side (leAt 4 r flagsAt)) m rg b s next → Seated P S v on side p t (leAt 4 r flagsAt) → Seated P S v on side (moved p s next) (told a) (leAt 4 (left a) flagsAt)
+      → Leads k x (doorOf side (leAt 4 r flagsAt)) m rg b (p .own .spins) s next → Seated P S v on side p t (leAt 4 r flagsAt) → Seated P S v on side (moved p s next) (told a) (leAt 4 (left a) flagsAt)
   seated-own side k x m rg b s next a at here d leads h =
       rw (flags-are P S v on r p payload fixed a) record {
         closed-bit = close-bit-own side (p .counter) s a (leAt 4 r flagsAt) (fixed .small) d ∙ ap (closedAfter (stanceOf s)) (h .closed-bit);
         attached-bit = attach-bit side side (p .counter) s a (leAt 4 r flagsAt) (fixed .small) d ∙ h .attached-bit;
         in-place = λ e. ((h .in-place e) .0, ap (counterAfter (stanceOf s)) ((h .in-place e) .1) ∙ counts-own P S v on r p payload fixed t buffer side s a d);
         empty = λ e. absurd (let z : _≡_ {A = ℕ} 0 1 = cc in omega arith);
-        over = λ e. parts-on k x (doorOf side (leAt 4 r flagsAt)) m rg b s next leads (⊎-elim (λ q. sym (ap (λ (u : Step). parts (phase u)) at) ∙ h .over (sym q ∙ e)) (ap (λ (u : Step). parts (phase u))) (closed-by side (p .counter) s a d (p .closed)));
-        heard = λ e. flag-up a (leAt 4 r flagsAt) (fixed .small) (closeMark (other side)) (left-bit side (leAt 4 r flagsAt) (glances-left k x (doorOf side (leAt 4 r flagsAt)) m rg b s next leads e));
+        over = λ e. parts-on k x (doorOf side (leAt 4 r flagsAt)) m rg b (p .own .spins) s next leads (⊎-elim (λ q. sym (ap (λ (u : Step). parts (phase u)) at) ∙ h .over (sym q ∙ e)) (ap (λ (u : Step). parts (phase u))) (closed-by side (p .counter) s a d (p .closed)));
+        few = h .few;
+        spun = spins-on k x (doorOf side (leAt 4 r flagsAt)) m rg b (p .own .spins) s next leads (λ n q. h .spun n (at ∙ q));
+        heard = λ e. flag-up a (leAt 4 r flagsAt) (fixed .small) (closeMark (other side)) (left-bit side (leAt 4 r flagsAt) (glances-left k x (doorOf side (leAt 4 r flagsAt)) m rg b (p .own .spins) s next leads e));
       }
 
   pub seated-other : (side : Side) (s : Step) (a : Access) (q q′ : Party) → Roused q q′ → Does side (p .counter) s a
@@ -142,13 +144,15 @@ module _ (P S v : ℕ) (on : Bool) (r : List ℕ) (p : Party) (payload : List �
         attached-bit = attach-bit (other side) side (p .counter) s a (leAt 4 r flagsAt) (fixed .small) d ∙ h .attached-bit ∙ ap (λ (x : Own). x .attached) (sym (o .own));
         in-place = λ e.
             let k = h .in-place (ap (λ (x : Own). x .attached) (sym (o .own)) ∙ e) in
-            (o .own ∙ k .0, o .counter ∙ k .1 ∙ ap (plus 64 v) (sym (counts-other P S v on r p payload fixed t buffer side s a d)));
+            (rw (o .own) (k .0), o .counter ∙ k .1 ∙ ap (plus 64 v) (sym (counts-other P S v on r p payload fixed t buffer side s a d)));
         empty = λ e.
             let k = h .empty (ap (λ (x : Own). x .attached) (sym (o .own)) ∙ e) in
             (roused-elim o (λ u. u ≡ Rest) (k .0) (λ z. absurd (let y : _≡_ {A = ℕ} 0 1 = cc in omega arith)), o .closed ∙ k .1);
         over = λ e.
             let k = h .over (sym (o .closed) ∙ e) in
             roused-elim o (λ u. parts (phase u) ≡ true) k (λ z. absurd (let y = sym k ∙ ap (λ (u : Step). parts (phase u)) z in let x : _≡_ {A = ℕ} 0 1 = cc in omega arith));
+        few = rw (o .own) (h .few);
+        spun = λ n. rw (o .own) (roused-elim o (λ u. u ≡ Spin n → n < q .own .spins) (h .spun n) (λ z w. absurd (let y : _≡_ {A = ℕ} 0 1 = cc in omega arith)));
         heard = λ e.
             flag-up a (leAt 4 r flagsAt) (fixed .small) (closeMark (other (other side)))
             (roused-elim o (λ u. u ≡ LastLook false → bitOn (worth (closeMark (other (other side)))) (leAt 4 r flagsAt) ≡ true) (h .heard) (λ z w. absurd (let y : _≡_ {A = ℕ} 0 1 = cc in omega arith)) e);
@@ -167,46 +171,48 @@ module _ (P S v : ℕ) (on : Bool) (r : List ℕ) (p : Party) (payload : List �
   rung-anew Sender = refl
   rung-anew Recorder = refl
 
-  pub since-own : (side : Side) (k x : ℕ) (z : Door) (m rg : Bool) (s next : Step) → Leads k x z m rg (leAt 4 r (bellAt (sleepBell side))) s next
+  pub since-own : (side : Side) (k x : ℕ) (z : Door) (m rg : Bool) (a : ℕ) (s next : Step) → Leads k x z m rg (leAt 4 r (bellAt (sleepBell side))) a s next
       → Since (phase s) (leAt 4 r (bellAt (sleepBell side))) (rungOf side t)
       → Since (phase next) (leAt 4 (left (nextAt s side (p .counter))) (bellAt (sleepBell side))) (rungOf side (told (nextAt s side (p .counter))))
-  since-own side k x z m rg s next idles y = tt
-  since-own side k x z m rg s next (finds h) y = tt
-  since-own side k x z m rg s next (blocks h q) y = tt
-  since-own side k x z m rg s next (gives-up h q) y = tt
-  since-own side k x z m rg s next copies y = tt
-  since-own side k x z m rg s next spills y = tt
-  since-own side k x z m rg s next (tells h) y = tt
-  since-own side k x z m rg s next (stores h) y = tt
-  since-own side k x z m rg s next (owes h) y = tt
-  since-own side k x z m rg s next (passes h) y = tt
-  since-own side k x z m rg s next raises y = tt
-  since-own side k x z m rg s next wakes y = tt
-  since-own side k x z m rg s next (enters h) y = tt
-  since-own side k x z m rg s next (stops h) y = tt
-  since-own side k x z m rg s next reads y = rw (bell-own side (nextAt Epoch side (p .counter)) refl, rung-anew side) (epoch-read (leAt 4 r (bellAt (sleepBell side))))
-  since-own side k x z m rg s next (finds-again h) y = tt
-  since-own side k x z m rg s next (stays h) y = rw (bell-own side (nextAt s side (p .counter)) refl) y
-  since-own side k x z m rg s next (enters-again h) y = rw (bell-own side (nextAt s side (p .counter)) refl) y
-  since-own side k x z m rg s next (stops-again h) y = tt
-  since-own side k x z m rg s next (sleeps h) y = tt
-  since-own side k x z m rg s next returns y = tt
-  since-own side k x z m rg s next ends y = tt
-  since-own side k x z m rg s next dreams y = tt
-  since-own side k x z m rg s next (glances h) y = tt
-  since-own side k x z m rg s next (glances-again h) y = tt
-  since-own side k x z m rg s next times-out y = tt
-  since-own side k x z m rg s next (finds-last h) y = tt
-  since-own side k x z m rg s next (finds-none h) y = tt
-  since-own side k x z m rg s next (closes h) y = tt
-  since-own side k x z m rg s next (closes-alone h) y = tt
-  since-own side k x z m rg s next close-raises y = tt
-  since-own side k x z m rg s next close-wakes y = tt
-  since-own side k x z m rg s next shuts y = tt
-  since-own side k x z m rg s next shut-raises y = tt
-  since-own side k x z m rg s next shut-wakes y = tt
-  since-own side k x z m rg s next shut-raises-again y = tt
-  since-own side k x z m rg s next shut-wakes-again y = tt
+  since-own side k x z m rg a s next idles y = tt
+  since-own side k x z m rg a s next (finds h) y = tt
+  since-own side k x z m rg a s next (blocks h q) y = tt
+  since-own side k x z m rg a s next (gives-up h q) y = tt
+  since-own side k x z m rg a s next copies y = tt
+  since-own side k x z m rg a s next spills y = tt
+  since-own side k x z m rg a s next (tells h) y = tt
+  since-own side k x z m rg a s next (stores h) y = tt
+  since-own side k x z m rg a s next (owes h) y = tt
+  since-own side k x z m rg a s next (passes h) y = tt
+  since-own side k x z m rg a s next raises y = tt
+  since-own side k x z m rg a s next wakes y = tt
+  since-own side k x z m rg a s next (enters h o) y = rw (asks _ _ o) tt
+  since-own side k x z m rg a s next (finds-spin h) y = tt
+  since-own side k x z m rg a s next (spins h o) y = rw (asks _ _ o) tt
+  since-own side k x z m rg a s next (stops h) y = tt
+  since-own side k x z m rg a s next reads y = rw (bell-own side (nextAt Epoch side (p .counter)) refl, rung-anew side) (epoch-read (leAt 4 r (bellAt (sleepBell side))))
+  since-own side k x z m rg a s next (finds-again h) y = tt
+  since-own side k x z m rg a s next (stays h) y = rw (bell-own side (nextAt s side (p .counter)) refl) y
+  since-own side k x z m rg a s next (enters-again h) y = rw (bell-own side (nextAt s side (p .counter)) refl) y
+  since-own side k x z m rg a s next (stops-again h) y = tt
+  since-own side k x z m rg a s next (sleeps h) y = tt
+  since-own side k x z m rg a s next returns y = tt
+  since-own side k x z m rg a s next ends y = tt
+  since-own side k x z m rg a s next dreams y = tt
+  since-own side k x z m rg a s next (glances h) y = tt
+  since-own side k x z m rg a s next (glances-again h) y = tt
+  since-own side k x z m rg a s next times-out y = tt
+  since-own side k x z m rg a s next (finds-last h) y = tt
+  since-own side k x z m rg a s next (finds-none h) y = tt
+  since-own side k x z m rg a s next (closes h) y = tt
+  since-own side k x z m rg a s next (closes-alone h) y = tt
+  since-own side k x z m rg a s next close-raises y = tt
+  since-own side k x z m rg a s next close-wakes y = tt
+  since-own side k x z m rg a s next shuts y = tt
+  since-own side k x z m rg a s next shut-raises y = tt
+  since-own side k x z m rg a s next shut-wakes y = tt
+  since-own side k x z m rg a s next shut-raises-again y = tt
+  since-own side k x z m rg a s next shut-wakes-again y = tt
 
   -- the other's bell and its count of raises go together
   pub since-other : (side : Side) (s : Step) (a : Access) (ph : Phase) → Does side (p .counter) s a

@@ -114,29 +114,30 @@ module _ (P S v : ℕ) (on : Bool) where
       rw (seat-one side (w .bench) q, seat-two side (w .bench) q) (λ h. omega (arith, y h, a (roomIn P S v on (other side) (w .trace))))
 
   module _ (power-ok : powerOk P ≡ true) (slot-ok : slotOk S ≡ true) (w : World) (real : Real P S v on w) where
-    module _ (side : Side) where
+    module _ (side : Side) (spins : ℕ) where
       abbrev joined : World
-      joined = attachWorld P S v on power-ok slot-ok w real side
+      joined = attachWorld P S v on power-ok slot-ok w real side spins
 
       attached-mine : (more : ℕ) → RungAt P S v on more side (other side) w → RungAt P S v on more side (other side) joined
       unfolding attachLeaves attachReply
-      attached-mine more y = by (eqb (number (attachAnswer (w .region) side)) 0) refl
+      attached-mine more y = by (eqb (number (attachAnswer (w .region) side spins)) 0) refl
         where
-          by : (b : Bool) → eqb (number (attachAnswer (w .region) side)) 0 ≡ b → RungAt P S v on more side (other side) joined
+          by : (b : Bool) → eqb (number (attachAnswer (w .region) side spins)) 0 ≡ b → RungAt P S v on more side (other side) joined
           by false e = rw e y
-          by true e = rw (e, seat-one side (w .bench) (attached (w .region) side)) (λ h. absurd (let z : _≡_ {A = ℕ} 0 1 = cc in omega arith))
+          by true e = rw (e, seat-one side (w .bench) (attached (w .region) side spins)) (λ h. absurd (let z : _≡_ {A = ℕ} 0 1 = cc in omega arith))
 
       attached-theirs : (more : ℕ) → RungAt P S v on more (other side) side w → RungAt P S v on more (other side) side joined
       unfolding attachLeaves attachReply
-      attached-theirs more y = by (eqb (number (attachAnswer (w .region) side)) 0) refl
+      attached-theirs more y = by (eqb (number (attachAnswer (w .region) side spins)) 0) refl
         where
-          empty : eqb (number (attachAnswer (w .region) side)) 0 ≡ true → partyIn w side .step ≡ Rest
-          empty e = (real .sides side .seat .empty (sym (real .sides side .seat .attached-bit) ∙ bit-clear (w .region) side e)) .0
+          empty : eqb (number (attachAnswer (w .region) side spins)) 0 ≡ true → partyIn w side .step ≡ Rest
+          empty e = (real .sides side .seat .empty (sym (real .sides side .seat .attached-bit) ∙ bit-clear (w .region) side spins e)) .0
 
-          by : (b : Bool) → eqb (number (attachAnswer (w .region) side)) 0 ≡ b → RungAt P S v on more (other side) side joined
+          by : (b : Bool) → eqb (number (attachAnswer (w .region) side spins)) 0 ≡ b → RungAt P S v on more (other side) side joined
           by false e = rw e y
-          by true e = rw (e, seat-one side (w .bench) (attached (w .region) side), seat-two side (w .bench) (attached (w .region) side)) (rw (empty e) at y)
+          by true e = rw (e, seat-one side (w .bench) (attached (w .region) side spins), seat-two side (w .bench) (attached (w .region) side spins)) (rw (empty e) at y)
 
+    module _ (side : Side) where
       turned-mine : (payload lent : List ℕ) (fault : Fault) (more : ℕ) → RungAt P S v on more side (other side) w → RungAt P S v on more side (other side) (turnWorld w side payload lent fault)
       turned-mine payload lent fault more y = by (takes w side payload lent fault) refl
         where
@@ -179,15 +180,15 @@ module _ (P S v : ℕ) (on : Bool) where
     turned w real Recorder Sender payload lent fault y = turned-theirs power-ok slot-ok w real Sender payload lent fault more y
     turned w real Recorder Recorder payload lent fault y = turned-mine power-ok slot-ok w real Recorder payload lent fault more y
 
-    joins : (w : World) (real : Real P S v on w) (σ side : Side) → Rung more σ w → Rung more σ (attachWorld P S v on power-ok slot-ok w real side)
-    joins w real Sender Sender y = attached-mine power-ok slot-ok w real Sender more y
-    joins w real Sender Recorder y = attached-theirs power-ok slot-ok w real Recorder more y
-    joins w real Recorder Sender y = attached-theirs power-ok slot-ok w real Sender more y
-    joins w real Recorder Recorder y = attached-mine power-ok slot-ok w real Recorder more y
+    joins : (w : World) (real : Real P S v on w) (σ side : Side) (spins : ℕ) → Rung more σ w → Rung more σ (attachWorld P S v on power-ok slot-ok w real side spins)
+    joins w real Sender Sender spins y = attached-mine power-ok slot-ok w real Sender spins more y
+    joins w real Sender Recorder spins y = attached-theirs power-ok slot-ok w real Recorder spins more y
+    joins w real Recorder Sender spins y = attached-theirs power-ok slot-ok w real Sender spins more y
+    joins w real Recorder Recorder spins y = attached-mine power-ok slot-ok w real Recorder spins more y
 
     rung-happens : (σ : Side) (h : Happening) (w : World) → Typed h → Real P S v on w → Rung more σ w → Rung (more + parting (other σ) h) σ (happens h w)
     unfolding happens played playedLeaves settled
-    rung-happens σ (attaches side) w t real y = no-more more σ (attachWorld P S v on power-ok slot-ok w real side) (joins w real σ side y)
+    rung-happens σ (attaches side spins) w t real y = no-more more σ (attachWorld P S v on power-ok slot-ok w real side spins) (joins w real σ side spins y)
     rung-happens σ (plays (Turn side) i o) w t real y = no-more more σ (turnWorld w side i o Fine) (turned w real σ side i o Fine y)
     rung-happens σ (plays (Failing side e) i o) w t real y = no-more more σ (turnWorld w side i o (Error e)) (turned w real σ side i o (Error e) y)
     rung-happens σ (plays (Spurious side) i o) w t real y = called-idly w σ side (spuriousSpec side (partyIn w side) .party) (spurious-changes side (partyIn w side)) (spurious-adds side (partyIn w side)) y
@@ -217,7 +218,7 @@ module _ (P S v : ℕ) (on : Bool) where
 
   fair-one : (σ : Side) (h : Happening) (w : World) → ((e : ℕ) → partyIn w σ .step ≡ Wait e → rungOf σ (w .trace) < 2 ^ 32)
       → FairBy (λ s u. Unit) σ h w → FairBy Timely σ h w
-  fair-one σ (attaches side) w f l = tt
+  fair-one σ (attaches side spins) w f l = tt
   fair-one σ (plays (Turn side) i o) w f l = λ g. fair-turn σ side Fine w f (l g)
   fair-one σ (plays (Failing side e) i o) w f l = λ g. fair-turn σ side (Error e) w f (l g)
   fair-one σ (plays (Spurious side) i o) w f l = tt

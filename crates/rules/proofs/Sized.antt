@@ -96,17 +96,17 @@ sized-turn w side payload lent fault h = by (takes w side payload lent fault) re
         let woke = wokeOf (nextSpec (partyIn w side)) (errorOf fault) in
         subst Sized (sym (turn-taken w side payload lent fault g)) (after side _ _ refl refl (roused (other side) (partyIn w (other side)) woke .own) (woken-length (other side) (partyIn w (other side)) woke))
 
-sized-attach : (w : World) (side : Side) → Sized w → Sized (happens (attaches side) w)
+sized-attach : (w : World) (side : Side) (spins : ℕ) → Sized w → Sized (happens (attaches side spins) w)
 unfolding happens attachReply
-sized-attach w side h = by (eqb (number (attachAnswer (w .region) side)) 0) refl
+sized-attach w side spins h = by (eqb (number (attachAnswer (w .region) side spins)) 0) refl
   where
-    by : (b : Bool) → eqb (number (attachAnswer (w .region) side)) 0 ≡ b → Sized (happens (attaches side) w)
-    by true e = rw e (sized-seat side (w .bench) (attached (w .region) side) h (λ q. nothing-fits (payloadCapacity (attached (w .region) side .own .slot))))
+    by : (b : Bool) → eqb (number (attachAnswer (w .region) side spins)) 0 ≡ b → Sized (happens (attaches side spins) w)
+    by true e = rw e (sized-seat side (w .bench) (attached (w .region) side spins) h (λ q. nothing-fits (payloadCapacity (attached (w .region) side spins .own .slot))))
     by false e = rw e h
 
 pub sized-happens : (h : Happening) (w : World) → Sized w → Sized (happens h w)
 unfolding happens played playedLeaves settled pushSpec closeSpec shutSpec spuriousSpec timeoutSpec
-sized-happens (attaches side) w h = sized-attach w side h
+sized-happens (attaches side spins) w h = sized-attach w side spins h
 sized-happens (plays (Turn side) i o) w h = sized-turn w side i o Fine h
 sized-happens (plays (Failing side e) i o) w h = sized-turn w side i o (Error e) h
 sized-happens (plays (Spurious Sender) i o) w h = let p = w .bench .sender in roused-fits p (sound Sender p) (isSleeping (stanceOf (p .step))) (reply (at Look p) GoesOn) h h
@@ -149,14 +149,14 @@ lent-fits Closing side n = refl
 lent-fits Moving side n = refl
 
 module _ (P S v : ℕ) (on : Bool) (power-ok : powerOk P ≡ true) (slot-ok : slotOk S ≡ true) (w : World) (real : Real P S v on w) (sized : Sized w) (side : Side) (here : partyIn w side .own .attached ≡ true) where
-  own-here : partyIn w side .own ≡ sizes P S v on side
+  own-here : partyIn w side .own ≡ sizes P S v on side (partyIn w side .own .spins)
   own-here = (real .sides side .seat .in-place here) .0
 
   pub sound-here : sound side (partyIn w side) ≡ true
   unfolding sound
   sound-here =
       let f : lengthOk side (partyIn w side .length) S ≡ true = subst (λ (o : Own). lengthOk side (partyIn w side .length) (o .slot) ≡ true) own-here (fits-here w side sized) in
-      rw (own-here, same-side side, power-ok, slot-ok, f)
+      rw (real .sides side .seat .few, own-here, same-side side, power-ok, slot-ok, f)
 
   -- and its turn is taken
   pub takes-here : takes w side (blankOf (partyIn w side .length)) (blankOf (partyIn w side .length)) Fine ≡ true

@@ -13,7 +13,7 @@ use Rattle.types.specs.declared.Fault.{Fault}
 use Rattle.types.specs.declared.Turned.{Turned}
 use Rattle.types.specs.declared.Bench.{Bench}
 use Rattle.types.specs.declared.Woke.the-variants.{Nobody}
-use Rattle.layout.specs.Limits.{powerOk, slotOk, totalBytes}
+use Rattle.layout.specs.Limits.{powerOk, slotOk, spinsOk, totalBytes}
 use Rattle.rules.specs.Sides.{other, sameSide}
 use Rattle.rules.specs.Take.{stanceOf, stepAfter, moveOf}
 use Rattle.rules.specs.Next.{nextSpec}
@@ -80,8 +80,8 @@ module _ (w : World) (side : Side) (payload lent : List ℕ) (fault : Fault) whe
     pub length-ok : lengthOk side (p .length) (p .own .slot) ≡ true
     unfolding sound
     length-ok =
-        and-right (slotOk (p .own .slot)) _
-        (and-right (powerOk (p .own .power)) _ (and-right (sameSide side (p .own .side)) _ (and-right (p .own .attached) _ is-sound)))
+        and-right (spinsOk (p .own .spins)) _
+        (and-right (slotOk (p .own .slot)) _ (and-right (powerOk (p .own .power)) _ (and-right (sameSide side (p .own .side)) _ (and-right (p .own .attached) _ is-sound))))
 
     pub lent-ok : lentOk (stanceOf (p .step)) (lentTo side (length payload) (length lent)) (p .length) ≡ true
     unfolding goes

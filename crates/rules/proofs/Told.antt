@@ -118,7 +118,7 @@ module _ (P S v : ℕ) (on : Bool) (power-ok : powerOk P ≡ true) (slot-ok : sl
   told-run : (ms : List Happening) (w : World) → Turns Recorder ms → (n : ℕ) → Stage n w → ticks ms w + n ≡ 2 → Stage 2 (run ms w)
   unfolding run happens played playedLeaves settled
   told-run [] w m n d l = let e : n ≡ 2 = omega arith in rw (← e) d
-  told-run (attaches mover ∷ ms) w m n d l = absurd m
+  told-run (attaches mover spins ∷ ms) w m n d l = absurd m
   told-run (plays (Turn mover) i o ∷ ms) w m n d l =
       subst (λ (τ : Side). ticks (plays (Turn τ) i o ∷ ms) w + n ≡ 2 → Stage 2 (run (plays (Turn τ) i o ∷ ms) w)) (sym (m .0)) (by (λ u k. told-run ms u (m .1) k) (takes w Recorder i o Fine) refl) l
     where

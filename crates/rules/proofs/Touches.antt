@@ -15,7 +15,7 @@ use Rattle.types.specs.declared.Party.{Party}
 use Rattle.types.specs.declared.Fault.{Fault}
 use Rattle.types.specs.declared.Access.{Access}
 use Rattle.types.specs.declared.Step.{Step}
-use Rattle.types.specs.declared.Step.the-variants.{Rest, Look, Copy, Publish, Check, Raise, Wake, Gate, Epoch, Again, GateAgain, Wait, Asleep, LastLook, CloseSet, CloseRaise, CloseWake, ShutSet, ShutRaiseNe, ShutWakeNe, ShutRaiseNf, ShutWakeNf}
+use Rattle.types.specs.declared.Step.the-variants.{Rest, Look, Copy, Publish, Check, Raise, Wake, Gate, Spin, Epoch, Again, GateAgain, Wait, Asleep, LastLook, CloseSet, CloseRaise, CloseWake, ShutSet, ShutRaiseNe, ShutWakeNe, ShutRaiseNf, ShutWakeNf}
 use Rattle.layout.specs.Limits.{payloadCapacity}
 use Rattle.rules.specs.Next.{nextAt, nextSpec}
 use Rattle.rules.specs.Access.{readOut, valueOf, leavesOf, bufferOf}
@@ -35,6 +35,7 @@ bytes-are n payload side (Check l t) = refl
 bytes-are n payload side (Raise l t) = refl
 bytes-are n payload side (Wake l t) = refl
 bytes-are n payload side Gate = refl
+bytes-are n payload side (Spin i) = refl
 bytes-are n payload side Epoch = refl
 bytes-are n payload side (Again e) = refl
 bytes-are n payload side (GateAgain e) = refl
@@ -60,6 +61,7 @@ place-is own p side (Check l t) o q = refl
 place-is own p side (Raise l t) o q = refl
 place-is own p side (Wake l t) o q = refl
 place-is own p side Gate o q = refl
+place-is own p side (Spin i) o q = refl
 place-is own p side Epoch o q = refl
 place-is own p side (Again e) o q = refl
 place-is own p side (GateAgain e) o q = refl
@@ -87,6 +89,7 @@ value-is r p side (Check l t) = refl
 value-is r p side (Raise l t) = refl
 value-is r p side (Wake l t) = refl
 value-is r p side Gate = refl
+value-is r p side (Spin i) = refl
 value-is r p side Epoch = refl
 value-is r p side (Again e) = refl
 value-is r p side (GateAgain e) = refl

@@ -5,7 +5,7 @@ use mathlib.Core.Logic.{_⊎_, inl, inr}
 use Prim.Native.Nat.{ℕ}
 use native.Mathlib.Omega.{arith}
 use Rattle.types.specs.declared.Step.{Step}
-use Rattle.types.specs.declared.Step.the-variants.{Rest, Look, Copy, Publish, Check, Raise, Wake, Gate, Epoch, Again, GateAgain, Wait, Asleep, LastLook, CloseSet, CloseRaise, CloseWake, ShutSet, ShutRaiseNe, ShutWakeNe, ShutRaiseNf, ShutWakeNf}
+use Rattle.types.specs.declared.Step.the-variants.{Rest, Look, Copy, Publish, Check, Raise, Wake, Gate, Spin, Epoch, Again, GateAgain, Wait, Asleep, LastLook, CloseSet, CloseRaise, CloseWake, ShutSet, ShutRaiseNe, ShutWakeNe, ShutRaiseNf, ShutWakeNf}
 use Rattle.types.specs.declared.Stance.{Stance}
 use Rattle.types.specs.declared.Stance.the-variants.{Resting, Sleeping, Copying, Publishing, Closing, Moving}
 use Rattle.rules.specs.Take.{stanceOf}
@@ -52,6 +52,7 @@ view (Check l t) = elsewhere refl refl
 view (Raise l t) = elsewhere refl refl
 view (Wake l t) = elsewhere refl refl
 view Gate = elsewhere refl refl
+view (Spin n) = elsewhere refl refl
 view Epoch = elsewhere refl refl
 view (Again e) = elsewhere refl refl
 view (GateAgain e) = elsewhere refl refl

@@ -11,7 +11,7 @@ use Rattle.types.specs.declared.Bell.{Bell}
 use Rattle.types.specs.declared.Bell.the-variants.{NotEmpty, NotFull}
 use Rattle.types.specs.declared.Party.{Party}
 use Rattle.types.specs.declared.Step.{Step}
-use Rattle.types.specs.declared.Step.the-variants.{Rest, Look, Copy, Publish, Check, Raise, Wake, Gate, Epoch, Again, GateAgain, Wait, Asleep, LastLook, CloseSet, CloseRaise, CloseWake, ShutSet, ShutRaiseNe, ShutWakeNe, ShutRaiseNf, ShutWakeNf}
+use Rattle.types.specs.declared.Step.the-variants.{Rest, Look, Copy, Publish, Check, Raise, Wake, Gate, Spin, Epoch, Again, GateAgain, Wait, Asleep, LastLook, CloseSet, CloseRaise, CloseWake, ShutSet, ShutRaiseNe, ShutWakeNe, ShutRaiseNf, ShutWakeNf}
 use Rattle.rules.specs.Sides.{other, sleepBell}
 use Rattle.rules.specs.Take.{stanceOf}
 use Rattle.rules.specs.Next.{nextAt}
@@ -39,6 +39,7 @@ heard-by side n error (Raise l g) = refl
 heard-by Sender n error (Wake l g) = unless NotEmpty Recorder (ltb 0 error)
 heard-by Recorder n error (Wake l g) = unless NotFull Sender (ltb 0 error)
 heard-by side n error Gate = refl
+heard-by side n error (Spin i) = refl
 heard-by side n error Epoch = refl
 heard-by side n error (Again e) = refl
 heard-by side n error (GateAgain e) = refl

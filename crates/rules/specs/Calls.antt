@@ -13,7 +13,7 @@ use Rattle.types.specs.declared.Stance.{Stance}
 use Rattle.types.specs.declared.Stance.the-variants.{Resting, Sleeping, Copying, Publishing, Closing, Moving}
 use Rattle.types.specs.declared.Answer.{Answer}
 use Rattle.types.specs.declared.Answer.the-variants.{GoesOn, Closed, Nothing, Begun, PayloadTooLong, NotFullOff, BadCall}
-use Rattle.layout.specs.Limits.{powerOk, slotOk, payloadCapacity}
+use Rattle.layout.specs.Limits.{powerOk, slotOk, spinsOk, payloadCapacity}
 use Rattle.rules.specs.Sides.{sameSide}
 use Rattle.rules.specs.Take.{stanceOf}
 
@@ -43,7 +43,7 @@ unfoldable pub sound : Side → Party → Bool
 sound side p =
     p .own .attached
     && (sameSide side (p .own .side)
-    && (powerOk (p .own .power) && (slotOk (p .own .slot) && lengthOk side (p .length) (p .own .slot))))
+    && (powerOk (p .own .power) && (slotOk (p .own .slot) && (spinsOk (p .own .spins) && lengthOk side (p .length) (p .own .slot)))))
 
 -- and at a begin that a call runs
 unfoldable pub ready : Side → Party → Bool

@@ -3,15 +3,17 @@ use mathlib.Core.Path.{_≡_}
 use mathlib.Core.Bool.{Bool, true, false, not, _&&_, _||_}
 use mathlib.Core.List.{List, [], _∷_, _++_}
 use Prim.Native.Nat.{ℕ, _+_, _-_, _*_, _^_, _<_, _≤_}
+use lib.Dec.{leb}
 use lib.ListN.{length, take}
 use Rattle.words.specs.Le.{leAt}
 use Rattle.words.specs.Wrap.{minus}
+use Rattle.types.specs.Pick.{pick}
 use Rattle.types.specs.declared.Side.{Side}
 use Rattle.types.specs.declared.Side.the-variants.{Sender, Recorder}
 use Rattle.types.specs.declared.Fault.{Fault}
 use Rattle.types.specs.declared.Fault.the-variants.{Fine, Error}
 use Rattle.types.specs.declared.Step.{Step}
-use Rattle.types.specs.declared.Step.the-variants.{Rest, Look, Publish, Check, Wake, Asleep, CloseSet, ShutSet}
+use Rattle.types.specs.declared.Step.the-variants.{Rest, Look, Spin, Publish, Check, Wake, Asleep, CloseSet, ShutSet}
 use Rattle.types.specs.declared.Stance.{Stance}
 use Rattle.types.specs.declared.Event.{Event}
 use Rattle.types.specs.declared.Event.the-variants.{Turn, Failing}
@@ -52,6 +54,14 @@ pub data Delivering : Step → Type 0 where
 abbrev pub Carries : (length tag : ℕ) → Trace → Type 0
 Carries l t trace =
     (before : List Note) × ((n : Note) × ((trace .delivered ≡ before ++ (n ∷ [])) × ((n .tag ≡ t) × ((length (n .body) ≡ l) × (take l (trace .buffer) ≡ n .body)))))
+
+-- at a spin no more than n follow it
+abbrev pub Follow : Side → (n : ℕ) → World → Type 0
+Follow side n w = (m : ℕ) → partyIn w side .step ≡ Spin m → m ≤ n
+
+-- T4's number: 7, and where n spins may follow n and 5, if that is more
+abbrev pub stopTurns : (n : ℕ) → ℕ
+stopTurns n = pick (leb n 2) 7 (n + 5)
 
 -- T8: asking is taken. A party at rest, with a sound record (attached, of that side, its sizes and length within the limits),
 -- is begun: a push that is not closed, not 19 and not 18; a pop and a close that are not closed; a shutdown always
@@ -157,28 +167,33 @@ module _ (region : List ℕ) (power slot : ℕ) (notfull : Bool) (start : ℕ) w
   abbrev pub Stopped : Side → (hs : List Happening) → Type 0
   Stopped side hs = Quiet (other side) (reached hs) × ((down (reached hs) || closedBit (other side) (reached hs)) ≡ true)
 
-  -- .. a call under way has answered after a first part of at most 7 turns of its own, whatever its waits do and whatever it asks meanwhile
-  abbrev pub AtRest : (counted : Stance → Bool) → Side → (hs ms : List Happening) → Type 0
-  AtRest counted side hs ms =
-      (first : List Happening) × ((rest : List Happening) × ((ms ≡ first ++ rest) × ((ticksBy counted first (reached hs) ≤ 7) × (partyIn (reached (hs ++ first)) side .step ≡ Rest))))
+  -- .. a call under way has answered after a first part of at most so many turns of its own, whatever its waits do and whatever it asks meanwhile
+  abbrev pub AtRest : (counted : Stance → Bool) → Side → (n : ℕ) → (hs ms : List Happening) → Type 0
+  AtRest counted side n hs ms =
+      (first : List Happening) × ((rest : List Happening) × ((ms ≡ first ++ rest) × ((ticksBy counted first (reached hs) ≤ stopTurns n) × (partyIn (reached (hs ++ first)) side .step ≡ Rest))))
 
   -- by document 01's turns, whatever wakes and bells do; and, on a run that is fair to it, with those it sleeps through
   abbrev pub EndsTicks : Side → Type 0
-  EndsTicks side = (hs ms : List Happening) → AllTyped (hs ++ ms) → Stopped side hs → AllOwn side ms → 7 ≤ ticks ms (reached hs) → AtRest moves side hs ms
+  EndsTicks side = (hs ms : List Happening) (n : ℕ) → AllTyped (hs ++ ms) → Stopped side hs → Follow side n (reached hs) → AllOwn side ms → stopTurns n ≤ ticks ms (reached hs) → AtRest moves side n hs ms
 
   abbrev pub Ends : Side → Type 0
-  Ends side = (hs ms : List Happening) → AllTyped (hs ++ ms) → AllFair side (hs ++ ms) (opened (created region power slot notfull start))
-      → Stopped side hs → AllOwn side ms → 7 ≤ beats ms (reached hs) → AtRest calling side hs ms
+  Ends side = (hs ms : List Happening) (n : ℕ) → AllTyped (hs ++ ms) → AllFair side (hs ++ ms) (opened (created region power slot notfull start))
+      → Stopped side hs → Follow side n (reached hs) → AllOwn side ms → stopTurns n ≤ beats ms (reached hs) → AtRest calling side n hs ms
+
+  -- at a spin fewer follow than the record's count, so that the number is 7 or the count and 4
+  abbrev pub SpinsWithin : Side → Type 0
+  SpinsWithin side = (hs : List Happening) (n : ℕ) → AllTyped hs → partyIn (reached hs) side .step ≡ Spin n → n < partyIn (reached hs) side .own .spins
 
   -- T9: a party alone in a blocking call with no room, nobody closed or shut down, no wait failing, is asleep within 9 turns of
-  -- its own, and within 6 of its look ..
+  -- its own and its spin count, and within 6 and its count of its look ..
   abbrev pub FallsAsleep : Side → Type 0
   FallsAsleep side = (hs ms : List Happening) → AllTyped hs
       → room side (capacity power) (reached hs) ≡ 0 → down (reached hs) ≡ false → closedBit (other side) (reached hs) ≡ false
       → partyIn (reached hs) side .blocking ≡ true → inWait (partyIn (reached hs) side .step) ≡ true → Turns side ms
-      → 9 ≤ ticks ms (reached hs)
+      → 9 + partyIn (reached hs) side .own .spins ≤ ticks ms (reached hs)
       → (first : List Happening) × ((rest : List Happening) × ((ms ≡ first ++ rest)
-      × ((ticks first (reached hs) ≤ 9) × ((partyIn (reached hs) side .step ≡ Look → ticks first (reached hs) ≤ 6) × (partyIn (reached (hs ++ first)) side .step ≡ Asleep)))))
+      × ((ticks first (reached hs) ≤ 9 + partyIn (reached hs) side .own .spins)
+      × ((partyIn (reached hs) side .step ≡ Look → ticks first (reached hs) ≤ 6 + partyIn (reached hs) side .own .spins) × (partyIn (reached (hs ++ first)) side .step ≡ Asleep)))))
 
   -- .. and asleep, its turns change nothing, and answer 253 where they are not refused
   abbrev pub Dreams : Side → Type 0

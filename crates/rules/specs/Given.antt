@@ -79,16 +79,16 @@ pub data EndsWith (p : Party) (v e : ℕ) : Answer → Type 0 where
 -- whatever gives an answer, with all that it is given
 pub data Ask : Type 0 where
   create : (region : List ℕ) (power slot : ℕ) (notfull : Bool) (start : ℕ) → Ask
-  attach : (region : List ℕ) → Side → Ask
+  attach : (region : List ℕ) → Side → (spins : ℕ) → Ask
   push : Party → (blocking : Bool) (tag length : ℕ) → Ask
   pop : Party → (blocking : Bool) (length : ℕ) → Ask
   close shutdown spurious timeout : Side → Party → Ask
   turn : Side → (region : List ℕ) → Party → (payload buffer : List ℕ) → Fault → Ask
 
 pub data Given : Ask → Answer → Type 0 where
-  -- 0, 4, 5, 6; and 0 to 6, 14, 16
+  -- 0, 4, 5, 6; and 0 to 6, 14, 16, 20
   created : {r : List ℕ} {power slot : ℕ} {notfull : Bool} {start : ℕ} {x : Answer} → Checked (createChecks (length r) power slot) x → Given (create r power slot notfull start) x
-  attached : {r : List ℕ} {side : Side} {x : Answer} → Checked (attachChecks r side) x → Given (attach r side) x
+  attached : {r : List ℕ} {side : Side} {spins : ℕ} {x : Answer} → Checked (attachChecks r side spins) x → Given (attach r side spins) x
   -- 20, first of all
   push-bad : {p : Party} {b : Bool} {t l : ℕ} → ready Sender p ≡ false → Given (push p b t l) BadCall
   pop-bad : {p : Party} {b : Bool} {l : ℕ} → ready Recorder p ≡ false → Given (pop p b l) BadCall
@@ -120,7 +120,7 @@ pub data Given : Ask → Answer → Type 0 where
 -- what is answered
 abbrev pub answered : Ask → Answer
 answered (create r power slot notfull start) = createAnswer (length r) power slot
-answered (attach r side) = attachReply r side .answer
+answered (attach r side spins) = attachReply r side spins .answer
 answered (push p blocking tag length) = pushSpec p blocking tag length .answer
 answered (pop p blocking length) = popSpec p blocking length .answer
 answered (close side p) = closeSpec side p .answer

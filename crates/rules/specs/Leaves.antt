@@ -13,7 +13,7 @@ use Rattle.rules.specs.Given.{Ask, create, attach, push, pop, close, shu
 -- no byte of the region or of a buffer changes; most calls are lent none
 abbrev pub BytesKept : Ask → Type 0
 BytesKept (create r power slot notfull start) = createLeaves r power slot notfull start ≡ r
-BytesKept (attach r side) = attachLeaves r side ≡ r
+BytesKept (attach r side spins) = attachLeaves r side spins ≡ r
 BytesKept (push p blocking tag length) = Unit
 BytesKept (pop p blocking length) = Unit
 BytesKept (close side p) = Unit
@@ -25,7 +25,7 @@ BytesKept (turn side r p i o f) = (turnLeaves side r p i o f ≡ r) × (turnBuff
 -- the record is the one handed in, and a turn woke nobody; a refused attach gives back that of a party not attached
 abbrev pub RecordKept : Ask → Type 0
 RecordKept (create r power slot notfull start) = Unit
-RecordKept (attach r side) = attachReply r side .party ≡ unattached side
+RecordKept (attach r side spins) = attachReply r side spins .party ≡ unattached side
 RecordKept (push p blocking tag length) = pushSpec p blocking tag length .party ≡ p
 RecordKept (pop p blocking length) = popSpec p blocking length .party ≡ p
 RecordKept (close side p) = closeSpec side p .party ≡ p
@@ -40,7 +40,7 @@ Unchanged a = BytesKept a × RecordKept a
 
 abbrev pub AtRest : Ask → Type 0
 AtRest (create r power slot notfull start) = Unit
-AtRest (attach r side) = attachReply r side .party .step ≡ Rest
+AtRest (attach r side spins) = attachReply r side spins .party .step ≡ Rest
 AtRest (push p blocking tag length) = pushSpec p blocking tag length .party .step ≡ Rest
 AtRest (pop p blocking length) = popSpec p blocking length .party .step ≡ Rest
 AtRest (close side p) = closeSpec side p .party .step ≡ Rest

@@ -19,7 +19,7 @@ use Rattle.types.specs.declared.SlotHead.{SlotHead}
 use Rattle.layout.specs.Flags.{worth, bitOn, closeMark}
 use Rattle.rules.specs.Sides.{other, used, limit}
 
--- P1, C1, B3, W3, B6, W6: the other side's counter
+-- P1, C1, a spin, B3, W3, B6, W6: the other side's counter
 abbrev pub roomWith : (used capacity limit : ℕ) → Room
 roomWith used capacity limit = pick (ltb capacity used) Corrupt (pick (eqb used limit) Blocked Free)
 

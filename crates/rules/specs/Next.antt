@@ -7,7 +7,7 @@ use Rattle.types.specs.declared.Bell.the-variants.{NotEmpty, NotFull}
 use Rattle.types.specs.declared.Mark.the-variants.{Shutdown}
 use Rattle.types.specs.declared.Party.{Party}
 use Rattle.types.specs.declared.Step.{Step}
-use Rattle.types.specs.declared.Step.the-variants.{Rest, Look, Copy, Publish, Check, Raise, Wake, Gate, Epoch, Again, GateAgain, Wait, Asleep, LastLook, CloseSet, CloseRaise, CloseWake, ShutSet, ShutRaiseNe, ShutWakeNe, ShutRaiseNf, ShutWakeNf}
+use Rattle.types.specs.declared.Step.the-variants.{Rest, Look, Copy, Publish, Check, Raise, Wake, Gate, Spin, Epoch, Again, GateAgain, Wait, Asleep, LastLook, CloseSet, CloseRaise, CloseWake, ShutSet, ShutRaiseNe, ShutWakeNe, ShutRaiseNf, ShutWakeNf}
 use Rattle.types.specs.declared.Access.{Access}
 use Rattle.types.specs.declared.Access.the-variants.{None, LoadCounter, LoadFlags, LoadBell, WriteSlot, ReadSlot, StoreCounter, RaiseBell, SetFlag, WaitBell, WakeBell}
 use Rattle.layout.specs.Flags.{closeMark}
@@ -34,6 +34,7 @@ nextAt (Check len tag) side n = LoadCounter (other side)
 nextAt (Raise len tag) side n = RaiseBell (ringBell side)
 nextAt (Wake len tag) side n = WakeBell (ringBell side) one
 nextAt Gate side n = LoadFlags
+nextAt (Spin left) side n = LoadCounter (other side)
 nextAt Epoch side n = LoadBell (sleepBell side)
 nextAt (Again e) side n = LoadCounter (other side)
 nextAt (GateAgain e) side n = LoadFlags

@@ -1,9 +1,9 @@
 -- A step, as far as the statements care.
 use Prim.Native.Nat.{ℕ}
 use Rattle.types.specs.declared.Step.{Step}
-use Rattle.types.specs.declared.Step.the-variants.{Rest, Look, Copy, Publish, Check, Raise, Wake, Gate, Epoch, Again, GateAgain, Wait, Asleep, LastLook, CloseSet, CloseRaise, CloseWake, ShutSet, ShutRaiseNe, ShutWakeNe, ShutRaiseNf, ShutWakeNf}
+use Rattle.types.specs.declared.Step.the-variants.{Rest, Look, Copy, Publish, Check, Raise, Wake, Gate, Spin, Epoch, Again, GateAgain, Wait, Asleep, LastLook, CloseSet, CloseRaise, CloseWake, ShutSet, ShutRaiseNe, ShutWakeNe, ShutRaiseNf, ShutWakeNf}
 
--- telling follows a store, asking comes before an epoch, armed to waits hold one, glancing is the last look before 11 or 13
+-- telling follows a store, asking comes before an epoch, spins with it, armed to waits hold one, glancing is the last look before 11 or 13
 pub data Phase : Type 0 where
   resting looking copying : Phase
   publishing telling : (length tag : ℕ) → Phase
@@ -20,6 +20,7 @@ phase (Check l t) = telling l t
 phase (Raise l t) = telling l t
 phase (Wake l t) = telling l t
 phase Gate = asking
+phase (Spin left) = asking
 phase Epoch = asking
 phase (Again e) = armed e
 phase (GateAgain e) = poised e

@@ -24,7 +24,7 @@ use Rattle.rules.specs.Run.{World, rungOf, Happening, attaches, plays, p
 
 -- a tag is a number of 16 bits; nothing else is asked of what happens
 abbrev pub Typed : Happening → Type 0
-Typed (attaches side) = Unit
+Typed (attaches side spins) = Unit
 Typed (plays (Turn side) payload lent) = Unit
 Typed (plays (Failing side error) payload lent) = Unit
 Typed (plays (Spurious side) payload lent) = Unit
@@ -58,7 +58,7 @@ FairTurnBy Asked Recorder Recorder fault w = Asked Recorder w
 
 -- only a turn that is taken is asked anything
 abbrev pub FairBy : (Asked : Side → World → Type 0) → (waiter : Side) → Happening → World → Type 0
-FairBy Asked side (attaches mover) w = Unit
+FairBy Asked side (attaches mover spins) w = Unit
 FairBy Asked side (plays (Turn mover) payload lent) w = takes w mover payload lent Fine ≡ true → FairTurnBy Asked side mover Fine w
 FairBy Asked side (plays (Failing mover error) payload lent) w = takes w mover payload lent (Error error) ≡ true → FairTurnBy Asked side mover (Error error) w
 FairBy Asked side (plays (Spurious mover) payload lent) w = Unit
@@ -88,7 +88,7 @@ AllLand = AllFairBy (λ side w. Unit)
 
 -- closes and shutdowns that a side asks for: these alone ring without a look at the ring, so only they can ring a waiter often
 abbrev pub parting : Side → Happening → ℕ
-parting side (attaches mover) = 0
+parting side (attaches mover spins) = 0
 parting side (plays (Turn mover) payload lent) = 0
 parting side (plays (Failing mover error) payload lent) = 0
 parting side (plays (Spurious mover) payload lent) = 0

@@ -50,9 +50,9 @@ pub record World : Type 0 where
   pub bench : Bench
   pub trace : Trace
 
--- an attach, or an event of the bench, whose turn is lent a payload and a buffer
+-- an attach with a spin count, or an event of the bench, whose turn is lent a payload and a buffer
 pub data Happening : Type 0 where
-  attaches : Side → Happening
+  attaches : Side → (spins : ℕ) → Happening
   plays : Event → (payload buffer : List ℕ) → Happening
 
 abbrev pub partyIn : World → Side → Party
@@ -140,12 +140,12 @@ traceAfter w (Close side) payload buffer = w .trace
 traceAfter w (Shutdown side) payload buffer = w .trace
 
 -- an attach seats its party where it is accepted
-abbrev pub attachSeats : World → Side → Bench
-attachSeats w side =
-    pick (eqb (number (attachAnswer (w .region) side)) 0) (seat (w .bench) side (attachReply (w .region) side .party)) (w .bench)
+abbrev pub attachSeats : World → Side → (spins : ℕ) → Bench
+attachSeats w side spins =
+    pick (eqb (number (attachAnswer (w .region) side spins)) 0) (seat (w .bench) side (attachReply (w .region) side spins .party)) (w .bench)
 
 unfoldable pub happens : Happening → World → World
-happens (attaches side) w = record { region = attachLeaves (w .region) side; bench = attachSeats w side; trace = w .trace }
+happens (attaches side spins) w = record { region = attachLeaves (w .region) side spins; bench = attachSeats w side spins; trace = w .trace }
 happens (plays e payload buffer) w =
     record {
       region = playedLeaves (w .region) (w .bench) payload buffer e;

@@ -1,6 +1,6 @@
 -- Where a turn leads, a definition a step. A party's own copy of sizes and options is `own`.
 use mathlib.Core.Bool.{Bool, true, false}
-use Prim.Native.Nat.{ℕ}
+use Prim.Native.Nat.{ℕ, _-_}
 use lib.Dec.{eqb}
 use Rattle.types.specs.Pick.{pick}
 use Rattle.types.specs.declared.Side.{Side}
@@ -16,7 +16,7 @@ use Rattle.types.specs.declared.Fit.the-variants.{Bad, Small, Fits}
 use Rattle.types.specs.declared.Nap.{Nap}
 use Rattle.types.specs.declared.Nap.the-variants.{Sleeps, Returns, TimedOut, Fails}
 use Rattle.types.specs.declared.Step.{Step}
-use Rattle.types.specs.declared.Step.the-variants.{Look, Copy, Publish, Check, Raise, Gate, GateAgain, Asleep, LastLook, CloseRaise, ShutSet}
+use Rattle.types.specs.declared.Step.the-variants.{Look, Copy, Publish, Check, Raise, Gate, Spin, Epoch, GateAgain, Asleep, LastLook, CloseRaise, ShutSet}
 use Rattle.types.specs.declared.Answer.{Answer}
 use Rattle.types.specs.declared.Answer.the-variants.{Done, CorruptIndices, CorruptSlot, Closed, Shutdown, Timeout, OutputTooSmall, Syscall}
 use Rattle.types.specs.declared.Move.{Move}
@@ -84,6 +84,15 @@ doorMove Open side onward = To onward
 
 unfoldable pub gateMove : Own → (flags : ℕ) → (onward : Step) → Move
 gateMove own flags onward = doorMove (doorOf (own .side) flags) (own .side) onward
+
+-- from B1, W1 and from a spin: so many spins are left, then B2, W2. A spin carries how many follow it
+unfoldable pub toSpin : (spins : ℕ) → Step
+toSpin spins = pick (eqb spins 0) Epoch (Spin (spins - 1))
+
+-- a spin looks as P1, C1 do
+unfoldable pub spinMove : Own → (counter their spins : ℕ) → Move
+spinMove own counter their spins =
+    roomMove (roomOf (own .side) (capacity (own .power)) counter their) (To (toSpin spins))
 
 -- B3, W3
 unfoldable pub againMove : Own → (counter their epoch : ℕ) → Move

@@ -43,7 +43,7 @@ module _ (counted : Stance → Bool) where
   countsBy w side payload lent fault = pick (takes w side payload lent fault && counted (stanceOf (partyIn w side .step))) 1 0
 
   abbrev pub tickBy : Happening → World → ℕ
-  tickBy (attaches other) w = 0
+  tickBy (attaches other spins) w = 0
   tickBy (plays (Turn mover) payload lent) w = countsBy w mover payload lent Fine
   tickBy (plays (Failing mover error) payload lent) w = countsBy w mover payload lent (Error error)
   tickBy (plays (Spurious mover) payload lent) w = 0
@@ -67,7 +67,7 @@ beats = ticksBy calling
 
 -- what a party does itself
 abbrev pub OwnDoing : Side → Happening → Type 0
-OwnDoing side (attaches other) = ⊥
+OwnDoing side (attaches other spins) = ⊥
 OwnDoing side (plays (Turn mover) payload lent) = mover ≡ side
 OwnDoing side (plays (Failing mover error) payload lent) = mover ≡ side
 OwnDoing side (plays (Spurious mover) payload lent) = mover ≡ side
@@ -90,7 +90,7 @@ Big Recorder w =
 -- the party neither closes nor shuts down, and each pop's buffer is big enough; it may try or block, its waits may fail, and
 -- what answers 20 or 253 may fall in between
 abbrev pub Wills : Side → Happening → World → Type 0
-Wills side (attaches other) w = ⊥
+Wills side (attaches other spins) w = ⊥
 Wills side (plays (Turn mover) payload lent) w = (mover ≡ side) × Big side w
 Wills side (plays (Failing mover error) payload lent) w = (mover ≡ side) × Big side w
 Wills side (plays (Spurious mover) payload lent) w = mover ≡ side
@@ -191,7 +191,7 @@ inWait s = inWaitAt (phase s)
 -- turns of its own, none of which fails
 abbrev pub Turns : Side → List Happening → Type 0
 Turns side [] = Unit
-Turns side (attaches other ∷ hs) = ⊥
+Turns side (attaches other spins ∷ hs) = ⊥
 Turns side (plays (Turn mover) payload lent ∷ hs) = (mover ≡ side) × Turns side hs
 Turns side (plays (Failing mover error) payload lent ∷ hs) = ⊥
 Turns side (plays (Spurious mover) payload lent ∷ hs) = ⊥

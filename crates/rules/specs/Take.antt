@@ -8,12 +8,12 @@ use Rattle.types.specs.declared.Reply.{Reply}
 use Rattle.types.specs.declared.Answer.{Answer}
 use Rattle.types.specs.declared.Answer.the-variants.{GoesOn, Nothing}
 use Rattle.types.specs.declared.Step.{Step}
-use Rattle.types.specs.declared.Step.the-variants.{Rest, Look, Copy, Publish, Check, Raise, Wake, Gate, Epoch, Again, GateAgain, Wait, Asleep, LastLook, CloseSet, CloseRaise, CloseWake, ShutSet, ShutRaiseNe, ShutWakeNe, ShutRaiseNf, ShutWakeNf}
+use Rattle.types.specs.declared.Step.the-variants.{Rest, Look, Copy, Publish, Check, Raise, Wake, Gate, Spin, Epoch, Again, GateAgain, Wait, Asleep, LastLook, CloseSet, CloseRaise, CloseWake, ShutSet, ShutRaiseNe, ShutWakeNe, ShutRaiseNf, ShutWakeNf}
 use Rattle.types.specs.declared.Stance.{Stance}
 use Rattle.types.specs.declared.Stance.the-variants.{Resting, Sleeping, Copying, Publishing, Closing, Moving}
 use Rattle.types.specs.declared.Move.{Move}
 use Rattle.types.specs.declared.Move.the-variants.{Still, To, End}
-use Rattle.rules.specs.Steps.{lookMove, copyMove, publishMove, checkMove, wakeMove, gateMove, againMove, waitMove, lastMove, closeMove, shutMove}
+use Rattle.rules.specs.Steps.{lookMove, copyMove, publishMove, checkMove, wakeMove, gateMove, toSpin, spinMove, againMove, waitMove, lastMove, closeMove, shutMove}
 
 -- own and counter, blocking and length are the party's, v the value that came back, f the error announced (0: none)
 abbrev pub moveAt : Step → Own → (counter : ℕ) → (blocking : Bool) → (length v f : ℕ) → Move
@@ -24,7 +24,8 @@ moveAt (Publish len tag) own n b l v f = publishMove own len tag
 moveAt (Check len tag) own n b l v f = checkMove own n v len tag
 moveAt (Raise len tag) own n b l v f = To (Wake len tag)
 moveAt (Wake len tag) own n b l v f = wakeMove own f len tag
-moveAt Gate own n b l v f = gateMove own v Epoch
+moveAt Gate own n b l v f = gateMove own v (toSpin (own .spins))
+moveAt (Spin left) own n b l v f = spinMove own n v left
 moveAt Epoch own n b l v f = To (Again (v % 2 ^ 32))
 moveAt (Again e) own n b l v f = againMove own n v e
 moveAt (GateAgain e) own n b l v f = gateMove own v (Wait e)
@@ -50,6 +51,7 @@ stanceOf (Check len tag) = Moving
 stanceOf (Raise len tag) = Moving
 stanceOf (Wake len tag) = Moving
 stanceOf Gate = Moving
+stanceOf (Spin left) = Moving
 stanceOf Epoch = Moving
 stanceOf (Again e) = Moving
 stanceOf (GateAgain e) = Moving

@@ -12,7 +12,7 @@ use Rattle.types.specs.declared.Bell.the-variants.{NotEmpty, NotFull}
 use Rattle.types.specs.declared.Party.{Party}
 use Rattle.types.specs.declared.Fault.{Fault}
 use Rattle.types.specs.declared.Step.{Step}
-use Rattle.types.specs.declared.Step.the-variants.{Rest, Look, Copy, Publish, Check, Raise, Wake, Gate, Epoch, Again, GateAgain, Wait, Asleep, LastLook, CloseSet, CloseRaise, CloseWake, ShutSet, ShutRaiseNe, ShutWakeNe, ShutRaiseNf, ShutWakeNf}
+use Rattle.types.specs.declared.Step.the-variants.{Rest, Look, Copy, Publish, Check, Raise, Wake, Gate, Spin, Epoch, Again, GateAgain, Wait, Asleep, LastLook, CloseSet, CloseRaise, CloseWake, ShutSet, ShutRaiseNe, ShutWakeNe, ShutRaiseNf, ShutWakeNf}
 use Rattle.types.specs.declared.Stance.{Stance}
 use Rattle.types.specs.declared.Stance.the-variants.{Resting, Sleeping, Copying, Publishing, Closing, Moving}
 use Rattle.layout.specs.Limits.{slotHeadBytes}
@@ -41,6 +41,7 @@ touchOf side (Check l t) = nothing
 touchOf side (Raise l t) = aBell (ringBell side)
 touchOf side (Wake l t) = nothing
 touchOf side Gate = nothing
+touchOf side (Spin left) = nothing
 touchOf side Epoch = nothing
 touchOf side (Again e) = nothing
 touchOf side (GateAgain e) = nothing
@@ -84,6 +85,7 @@ seenBy side (Check l t) r p = leAt 8 r (counterAt (other side))
 seenBy side (Raise l t) r p = 0
 seenBy side (Wake l t) r p = 0
 seenBy side Gate r p = leAt 4 r flagsAt
+seenBy side (Spin left) r p = leAt 8 r (counterAt (other side))
 seenBy side Epoch r p = leAt 4 r (bellAt (sleepBell side))
 seenBy side (Again e) r p = leAt 8 r (counterAt (other side))
 seenBy side (GateAgain e) r p = leAt 4 r flagsAt
