@@ -27,7 +27,7 @@ use Rattle.rules.specs.Run.{Note, Trace, World, partyIn, takes, traced}
 use Rattle.rules.specs.Stretch.{moves, calling, countsBy, Big, notesOf}
 use Rattle.rules.specs.Phase.{phase}
 use Rattle.rules.proofs.Views.{Kind, rests, dreams, acts, kind}
-use Rattle.rules.proofs.Leads.{Leads}
+use Rattle.rules.proofs.Leads.{Sight, Leads}
 use Rattle.rules.proofs.Does.{ownAfter, Does, does, nothing, looks, flags, reads, writes, takes as read, stores, raises, closes, shuts, waits as wait, wakes}
 use Rattle.rules.proofs.Taken.{turnWorld, turn-refused}
 use Rattle.rules.proofs.RealTurn.{own-is, counter-is, access-is, next-step, leads-here, after-turn, turn-is-after}
@@ -77,20 +77,20 @@ pub by-calling : Count calling
 by-calling = record { all = moves-call; none-at-rest = refl }
 
 -- one turn: by the room, and by whether it counts. Where a sleeper's turns count, one with room does not sleep
-turn-cost : (counted : Stance → Bool) → Count counted → (k x : ℕ) (z : Door) (m r : Bool) (b y n : ℕ) (s next : Step) → Leads k x z m r b y s next → Kind s → Calls (phase s) → (s ≡ Rest → next ≡ Rest) → (s ≡ Asleep → next ≡ Asleep)
-    → (counted Sleeping ≡ true → 0 < k → s ≡ Asleep → ⊥) → (0 < k → s ≡ Copy → next ≡ Rest → ⊥) → cost s k x ≤ pick (counted (stanceOf s)) 1 0 + n → cost next (ownRoom s k) (roomBy s x) ≤ n
-turn-cost counted count zero x z m r b y n s next leads kind c i a j f h = omega (arith, cost-zero s next (roomBy s x))
-turn-cost counted count (suc k) x z m r b y n s next leads rests c i a j f h =
-    let l : cost Rest (suc k) x ≤ 0 + n = rw (count .none-at-rest) at h in
+turn-cost : (counted : Stance → Bool) → Count counted → (g : Sight) (k : ℕ) → g .room ≡ k → (n : ℕ) (s next : Step) → Leads g s next → Kind s → Calls (phase s) → (s ≡ Rest → next ≡ Rest) → (s ≡ Asleep → next ≡ Asleep)
+    → (counted Sleeping ≡ true → 0 < k → s ≡ Asleep → ⊥) → (0 < k → s ≡ Copy → next ≡ Rest → ⊥) → cost s k (g .theirs) ≤ pick (counted (stanceOf s)) 1 0 + n → cost next (ownRoom s k) (roomBy s (g .theirs)) ≤ n
+turn-cost counted count g zero u n s next leads kind c i a j f h = omega (arith, cost-zero s next (roomBy s (g .theirs)))
+turn-cost counted count g (suc k) u n s next leads rests c i a j f h =
+    let l : cost Rest (suc k) (g .theirs) ≤ 0 + n = rw (count .none-at-rest) at h in
     rw (i refl) (omega arith)
-turn-cost counted count (suc k) x z m r b y n s next leads dreams c i a j f h = rw (a refl) (by (counted Sleeping) refl)
+turn-cost counted count g (suc k) u n s next leads dreams c i a j f h = rw (a refl) (by (counted Sleeping) refl)
   where
-    by : (w : Bool) → counted Sleeping ≡ w → cost Asleep (suc k) x ≤ n
+    by : (w : Bool) → counted Sleeping ≡ w → cost Asleep (suc k) (g .theirs) ≤ n
     by true e = absurd (j e (omega arith) refl)
-    by false e = let l : cost Asleep (suc k) x ≤ 0 + n = rw e at h in omega arith
-turn-cost counted count (suc k) x z m r b y n s next leads (acts move) c i a j f h =
-    let l : cost s (suc k) x ≤ 1 + n = rw (count .all (stanceOf s) move) at h in
-    omega (arith, fall k x z m r b y s next leads c (moves-off s Rest move refl) (moves-off s Asleep move refl) (f (omega arith)))
+    by false e = let l : cost Asleep (suc k) (g .theirs) ≤ 0 + n = rw e at h in omega arith
+turn-cost counted count g (suc k) u n s next leads (acts move) c i a j f h =
+    let l : cost s (suc k) (g .theirs) ≤ 1 + n = rw (count .all (stanceOf s) move) at h in
+    omega (arith, fall g k u s next leads c (moves-off s Rest move refl) (moves-off s Asleep move refl) (f (omega arith)))
 
 -- a turn changes its own party's notes alone
 module _ (p : Party) (payload buffer : List ℕ) (t : Trace) where
@@ -211,9 +211,9 @@ module _ (P S v : ℕ) (on : Bool) where
           let buffer = bufferOf (w .region) (p .own) (nextAt s side (p .counter)) (p .length) lent in
           record {
             quiet = ap (λ (q : Party). duty (other side) (q .step)) them ∙ duty-kept P S v on power-ok slot-ok w real side payload lent fault g ∙ go .quiet;
-            calls = rw me (calls-on _ _ _ _ _ _ _ s next leads (go .calls));
+            calls = rw me (calls-on _ s next leads (go .calls));
             left = rw (me, room-after P S v on power-ok slot-ok w real side payload lent fault g, other-room-after P S v on power-ok slot-ok w real side payload lent fault g)
-                (turn-cost counted count k _ _ _ _ _ _ n s next leads (kind s) (go .calls) stays-at-rest dreams-on awake (λ h. fits-here big) (go .left));
+                (turn-cost counted count _ k refl n s next leads (kind s) (go .calls) stays-at-rest dreams-on awake (λ h. fits-here big) (go .left));
             same = ap (notesOf (other side)) trail ∙ notes-kept p payload buffer t side (p .counter) s (nextAt s side (p .counter)) (does side (p .counter) s) ∙ go .same;
           }
 

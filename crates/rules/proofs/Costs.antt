@@ -11,7 +11,7 @@ use Rattle.rules.specs.Take.{stanceOf}
 use Rattle.rules.specs.Stretch.{inCallAt}
 use Rattle.rules.specs.Phase.{Phase, phase}
 use Rattle.rules.proofs.Does.{less, ownAfter}
-use Rattle.rules.proofs.Leads.{Onward, straight, around, asks, Leads, idles, finds, blocks, gives-up, copies, spills, tells, stores, owes, passes, raises, wakes, enters, stops, finds-spin, spins, reads, finds-again, stays, enters-again, stops-again, returns, ends, dreams, glances, glances-again, times-out, finds-last, finds-none, closes, closes-alone, close-raises, close-wakes, shuts, shut-raises, shut-wakes, shut-raises-again, shut-wakes-again, sleeps as falls-asleep}
+use Rattle.rules.proofs.Leads.{Sight, Onward, straight, around, asks, Leads, idles, finds, blocks, gives-up, copies, spills, tells, stores, owes, passes, raises, wakes, enters, stops, finds-spin, spins, reads, finds-again, stays, enters-again, stops-again, returns, ends, dreams, glances, glances-again, times-out, finds-last, finds-none, closes, closes-alone, close-raises, close-wakes, shuts, shut-raises, shut-wakes, shut-raises-again, shut-wakes-again, sleeps as falls-asleep}
 use Rattle.rules.proofs.Heard.{roomBy}
 
 -- two turns more for the one store that finds the other blocked
@@ -119,86 +119,86 @@ ahead-on n t x straight = omega arith
 ahead-on n t x (around m) = omega arith
 
 -- with room, a turn of a call takes one off the cost, where a pop's copy fits
-pub fall : (k x : ℕ) (z : Door) (m r : Bool) (b a : ℕ) (s next : Step) → Leads (suc k) x z m r b a s next → Calls (phase s) → (s ≡ Rest → ⊥) → (s ≡ Asleep → ⊥) → (s ≡ Copy → next ≡ Rest → ⊥)
-    → suc (cost next (ownRoom s (suc k)) (roomBy s x)) ≤ cost s (suc k) x
-fall k x z m r b a s next idles c i j f = absurd (i refl)
-fall k x z m r b a s next (finds h) c i j f = omega arith
-fall k x z m r b a s next (blocks h q) c i j f = absurd (omega arith)
-fall k x z m r b a s next (gives-up h q) c i j f = absurd (omega arith)
-fall k x z m r b a s next copies c i j f = omega arith
-fall k x z m r b a s next spills c i j f = absurd (f refl refl)
-fall k x z m r b a s next (tells {l = l} {t = t} h) c i j f = stored-cost l t k x
-fall k x z m r b a s next (stores {l = l} {t = t} h) c i j f = alone-cost l t k x
-fall k x z m r b a s next (owes {l = l} {t = t} h) c i j f = owed-cost l t k x h
-fall k x z m r b a s next (passes {l = l} {t = t} h) c i j f = passed-cost l t k x h
-fall k x z m r b a s next raises c i j f = omega arith
-fall k x z m r b a s next wakes c i j f = omega arith
-fall k x z m r b a s next (enters h o) c i j f = omega (arith, ahead-on _ next x o)
-fall k x z m r b a s next (finds-spin h) c i j f = omega arith
-fall k x z m r b a s next (spins h o) c i j f = absurd (omega arith)
-fall k x z m r b a s next (stops h) c i j f = omega arith
-fall k x z m r b a s next reads c i j f = omega arith
-fall k x z m r b a s next (finds-again h) c i j f = omega arith
-fall k x z m r b a s next (stays h) c i j f = absurd (omega arith)
-fall k x z m r b a s next (enters-again h) c i j f = omega arith
-fall k x z m r b a s next (stops-again h) c i j f = omega arith
-fall k x z m r b a s next (falls-asleep h) c i j f = omega arith
-fall k x z m r b a s next returns c i j f = omega arith
-fall k x z m r b a s next ends c i j f = omega arith
-fall k x z m r b a s next dreams c i j f = absurd (j refl)
-fall k x z m r b a s next (glances h) c i j f = omega arith
-fall k x z m r b a s next (glances-again h) c i j f = omega arith
-fall k x z m r b a s next times-out c i j f = omega arith
-fall k x z m r b a s next (finds-last h) c i j f = omega arith
-fall k x z m r b a s next (finds-none h) c i j f = absurd (omega arith)
-fall k x z m r b a s next (closes h) c i j f = absurd c
-fall k x z m r b a s next (closes-alone h) c i j f = absurd c
-fall k x z m r b a s next close-raises c i j f = absurd c
-fall k x z m r b a s next close-wakes c i j f = absurd c
-fall k x z m r b a s next shuts c i j f = absurd c
-fall k x z m r b a s next shut-raises c i j f = absurd c
-fall k x z m r b a s next shut-wakes c i j f = absurd c
-fall k x z m r b a s next shut-raises-again c i j f = absurd c
-fall k x z m r b a s next shut-wakes-again c i j f = absurd c
+pub fall : (g : Sight) (k : ℕ) → g .room ≡ suc k → (s next : Step) → Leads g s next → Calls (phase s) → (s ≡ Rest → ⊥) → (s ≡ Asleep → ⊥) → (s ≡ Copy → next ≡ Rest → ⊥)
+    → suc (cost next (ownRoom s (suc k)) (roomBy s (g .theirs))) ≤ cost s (suc k) (g .theirs)
+fall g k e s next idles c i j f = absurd (i refl)
+fall g k e s next (finds h) c i j f = omega arith
+fall g k e s next (blocks h q) c i j f = absurd (omega arith)
+fall g k e s next (gives-up h q) c i j f = absurd (omega arith)
+fall g k e s next copies c i j f = omega arith
+fall g k e s next spills c i j f = absurd (f refl refl)
+fall g k e s next (tells {l = l} {t = t} h) c i j f = stored-cost l t k (g .theirs)
+fall g k e s next (stores {l = l} {t = t} h) c i j f = alone-cost l t k (g .theirs)
+fall g k e s next (owes {l = l} {t = t} h) c i j f = owed-cost l t k (g .theirs) h
+fall g k e s next (passes {l = l} {t = t} h) c i j f = passed-cost l t k (g .theirs) h
+fall g k e s next raises c i j f = omega arith
+fall g k e s next wakes c i j f = omega arith
+fall g k e s next (enters h o) c i j f = omega (arith, ahead-on _ next (g .theirs) o)
+fall g k e s next (finds-spin h) c i j f = omega arith
+fall g k e s next (spins h o) c i j f = absurd (omega arith)
+fall g k e s next (stops h) c i j f = omega arith
+fall g k e s next reads c i j f = omega arith
+fall g k e s next (finds-again h) c i j f = omega arith
+fall g k e s next (stays h) c i j f = absurd (omega arith)
+fall g k e s next (enters-again h) c i j f = omega arith
+fall g k e s next (stops-again h) c i j f = omega arith
+fall g k e s next (falls-asleep h) c i j f = omega arith
+fall g k e s next returns c i j f = omega arith
+fall g k e s next ends c i j f = omega arith
+fall g k e s next dreams c i j f = absurd (j refl)
+fall g k e s next (glances u h) c i j f = omega arith
+fall g k e s next (glances-again u h) c i j f = omega arith
+fall g k e s next times-out c i j f = omega arith
+fall g k e s next (finds-last h) c i j f = omega arith
+fall g k e s next (finds-none h) c i j f = absurd (omega arith)
+fall g k e s next (closes h) c i j f = absurd c
+fall g k e s next (closes-alone h) c i j f = absurd c
+fall g k e s next close-raises c i j f = absurd c
+fall g k e s next close-wakes c i j f = absurd c
+fall g k e s next shuts c i j f = absurd c
+fall g k e s next shut-raises c i j f = absurd c
+fall g k e s next shut-wakes c i j f = absurd c
+fall g k e s next shut-raises-again c i j f = absurd c
+fall g k e s next shut-wakes-again c i j f = absurd c
 
 -- a turn stays in the call or ends it
-pub calls-on : (k x : ℕ) (z : Door) (m r : Bool) (b a : ℕ) (s next : Step) → Leads k x z m r b a s next → Calls (phase s) → Calls (phase next)
-calls-on k x z m r b a s next idles c = tt
-calls-on k x z m r b a s next (finds h) c = tt
-calls-on k x z m r b a s next (blocks h q) c = tt
-calls-on k x z m r b a s next (gives-up h q) c = tt
-calls-on k x z m r b a s next copies c = tt
-calls-on k x z m r b a s next spills c = tt
-calls-on k x z m r b a s next (tells h) c = tt
-calls-on k x z m r b a s next (stores h) c = tt
-calls-on k x z m r b a s next (owes h) c = tt
-calls-on k x z m r b a s next (passes h) c = tt
-calls-on k x z m r b a s next raises c = tt
-calls-on k x z m r b a s next wakes c = tt
-calls-on k x z m r b a s next (enters h o) c = rw (asks _ _ o) tt
-calls-on k x z m r b a s next (finds-spin h) c = tt
-calls-on k x z m r b a s next (spins h o) c = rw (asks _ _ o) tt
-calls-on k x z m r b a s next (stops h) c = tt
-calls-on k x z m r b a s next reads c = tt
-calls-on k x z m r b a s next (finds-again h) c = tt
-calls-on k x z m r b a s next (stays h) c = tt
-calls-on k x z m r b a s next (enters-again h) c = tt
-calls-on k x z m r b a s next (stops-again h) c = tt
-calls-on k x z m r b a s next (falls-asleep h) c = tt
-calls-on k x z m r b a s next returns c = tt
-calls-on k x z m r b a s next ends c = tt
-calls-on k x z m r b a s next dreams c = tt
-calls-on k x z m r b a s next (glances h) c = tt
-calls-on k x z m r b a s next (glances-again h) c = tt
-calls-on k x z m r b a s next times-out c = tt
-calls-on k x z m r b a s next (finds-last h) c = tt
-calls-on k x z m r b a s next (finds-none h) c = tt
-calls-on k x z m r b a s next (closes h) c = absurd c
-calls-on k x z m r b a s next (closes-alone h) c = tt
-calls-on k x z m r b a s next close-raises c = absurd c
-calls-on k x z m r b a s next close-wakes c = tt
-calls-on k x z m r b a s next shuts c = absurd c
-calls-on k x z m r b a s next shut-raises c = absurd c
-calls-on k x z m r b a s next shut-wakes c = absurd c
-calls-on k x z m r b a s next shut-raises-again c = absurd c
-calls-on k x z m r b a s next shut-wakes-again c = tt
+pub calls-on : (g : Sight) (s next : Step) → Leads g s next → Calls (phase s) → Calls (phase next)
+calls-on g s next idles c = tt
+calls-on g s next (finds h) c = tt
+calls-on g s next (blocks h q) c = tt
+calls-on g s next (gives-up h q) c = tt
+calls-on g s next copies c = tt
+calls-on g s next spills c = tt
+calls-on g s next (tells h) c = tt
+calls-on g s next (stores h) c = tt
+calls-on g s next (owes h) c = tt
+calls-on g s next (passes h) c = tt
+calls-on g s next raises c = tt
+calls-on g s next wakes c = tt
+calls-on g s next (enters h o) c = rw (asks _ _ o) tt
+calls-on g s next (finds-spin h) c = tt
+calls-on g s next (spins h o) c = rw (asks _ _ o) tt
+calls-on g s next (stops h) c = tt
+calls-on g s next reads c = tt
+calls-on g s next (finds-again h) c = tt
+calls-on g s next (stays h) c = tt
+calls-on g s next (enters-again h) c = tt
+calls-on g s next (stops-again h) c = tt
+calls-on g s next (falls-asleep h) c = tt
+calls-on g s next returns c = tt
+calls-on g s next ends c = tt
+calls-on g s next dreams c = tt
+calls-on g s next (glances u h) c = tt
+calls-on g s next (glances-again u h) c = tt
+calls-on g s next times-out c = tt
+calls-on g s next (finds-last h) c = tt
+calls-on g s next (finds-none h) c = tt
+calls-on g s next (closes h) c = absurd c
+calls-on g s next (closes-alone h) c = tt
+calls-on g s next close-raises c = absurd c
+calls-on g s next close-wakes c = tt
+calls-on g s next shuts c = absurd c
+calls-on g s next shut-raises c = absurd c
+calls-on g s next shut-wakes c = absurd c
+calls-on g s next shut-raises-again c = absurd c
+calls-on g s next shut-wakes-again c = tt

@@ -31,7 +31,7 @@ use Rattle.rules.specs.Claims.{Fresh, reached, FallsAsleep}
 use Rattle.rules.proofs.Views.{Kind, rests, dreams as asleep, acts, kind}
 use Rattle.rules.proofs.After.{bell-after}
 use Rattle.rules.proofs.Kept.{header-in}
-use Rattle.rules.proofs.Leads.{stopAt, stop-barred, open-door, Leads}
+use Rattle.rules.proofs.Leads.{stopAt, stop-barred, open-door}
 use Rattle.rules.proofs.Taken.{turnWorld, turn-refused}
 use Rattle.rules.proofs.Seats.{moved}
 use Rattle.rules.proofs.RealTurn.{access-is, next-step, leads-here, after-turn, turn-is-after, real-after}
@@ -82,15 +82,8 @@ module _ (P S v : ℕ) (on : Bool) (power-ok : powerOk P ≡ true) (slot-ok : sl
         let at : value ≡ bell side w = ap (valueOf (w .region) (p .own)) (access-is P S v on power-ok slot-ok w (d .real) side payload lent Fine g ∙ ap (λ (u : Step). nextAt u side (p .counter)) q) in
         ap (λ (u : Step). stepAfter (moveAt u (p .own) (p .counter) (p .blocking) (p .length) value 0) u) q ∙ nap-step (p .own) value e ∙ ap (λ (u : ℕ). pick (eqb u e) Asleep Look) at
 
-    leads : Leads 0 (roomIn P S v on (other side) (w .trace)) Open true (rings side on) (bell side w) (p .own .spins) s next
-    leads =
-        subst (λ (m : Bool). Leads 0 (roomIn P S v on (other side) (w .trace)) Open m (rings side on) (bell side w) (p .own .spins) s next) (d .blocking)
-        (subst (λ (z : Door). Leads 0 (roomIn P S v on (other side) (w .trace)) z (p .blocking) (rings side on) (bell side w) (p .own .spins) s next) (open-door _ (stop-barred side (leAt 4 (w .region) flagsAt) ∙ d .clear))
-        (subst (λ (k : ℕ). Leads k (roomIn P S v on (other side) (w .trace)) (doorOf side (leAt 4 (w .region) flagsAt)) (p .blocking) (rings side on) (bell side w) (p .own .spins) s next) (d .room)
-        (leads-here P S v on power-ok slot-ok w (d .real) side payload lent Fine g)))
-
     drowses : (inWait next ≡ true) × (toSleep (bell side w) (p .own .spins) next ≤ less (toSleep (bell side w) (p .own .spins) s))
-    drowses = drowse _ _ (bell side w) (p .own .spins) (d .real .sides side .bell-small) s next leads (d .waits) naps-here
+    drowses = drowse _ (d .room) (d .real .sides side .bell-small) (open-door _ (stop-barred side (leAt 4 (w .region) flagsAt) ∙ d .clear)) (d .blocking) s next (leads-here P S v on power-ok slot-ok w (d .real) side payload lent Fine g) (d .waits) naps-here
 
     bell-same : bell side after ≡ bell side w
     unfolding after-turn

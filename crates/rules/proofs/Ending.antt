@@ -156,7 +156,7 @@ module _ (P S v : ℕ) (on : Bool) where
         moves-nearer : (s ≡ Asleep → ⊥) → Then side n 1 after
         moves-nearer j =
             let leads = leads-here P S v on power-ok slot-ok w real side payload lent fault g in
-            let fell = one-less s k (toRest next (ownRoom s k)) i (nearer _ _ _ _ _ _ _ s next leads (stop-barred side (leAt 4 (w .region) flagsAt) ∙ d .up) j) n (d .left) in
+            let fell = one-less s k (toRest next (ownRoom s k)) i (nearer _ s next leads (stop-barred side (leAt 4 (w .region) flagsAt) ∙ d .up) j) n (d .left) in
             (still-ending (n - 1) (fell .0), fell .1)
 
         sleeps-on : s ≡ Asleep → Then side n 0 after

@@ -27,7 +27,7 @@ use Rattle.rules.specs.Run.{Note, Trace, Carried, published, carried, tr
 use Rattle.rules.specs.Phase.{Phase, resting, looking, copying, publishing, telling, asking, armed, poised, waits, sleeps as asleep, glancing, leaving, phase}
 use Rattle.rules.proofs.Effects.{room-other-is}
 use Rattle.rules.proofs.Does.{otherAfter, Does, nothing, looks, flags, reads as epoch, writes, takes, stores as store, raises as ring, closes as close, shuts as shut, waits as wait, wakes as wake}
-use Rattle.rules.proofs.Leads.{asks, Leads, idles, finds, blocks, gives-up, copies, spills, tells, stores, owes, passes, raises, wakes, enters, stops, finds-spin, spins, reads, finds-again, stays, enters-again, stops-again, sleeps, returns, ends, dreams, glances, glances-again, times-out, finds-last, finds-none, closes, closes-alone, close-raises, close-wakes, shuts, shut-raises, shut-wakes, shut-raises-again, shut-wakes-again}
+use Rattle.rules.proofs.Leads.{Sight, asks, Leads, idles, finds, blocks, gives-up, copies, spills, tells, stores, owes, passes, raises, wakes, enters, stops, finds-spin, spins, reads, finds-again, stays, enters-again, stops-again, sleeps, returns, ends, dreams, glances, glances-again, times-out, finds-last, finds-none, closes, closes-alone, close-raises, close-wakes, shuts, shut-raises, shut-wakes, shut-raises-again, shut-wakes-again}
 use Rattle.rules.proofs.Ring.{holds-kept, written-elsewhere, queue-still, queue-quiet, queue-sent, queue-got}
 use Rattle.rules.proofs.Real.{countOf, HasRoom, sizes, roomIn, nth, blank, HoldsAt, InHand, Fixed, Queue, has-more, free}
 
@@ -114,47 +114,47 @@ module _ (P S v : ℕ) (on : Bool) (power-ok : powerOk P ≡ true) (slot-ok : sl
   copy-room Sender = refl
   copy-room Recorder = refl
 
-  pub room-own : (side : Side) (x : ℕ) (z : Door) (m rg : Bool) (b a : ℕ) (s next : Step) → Leads (roomIn P S v on side t) x z m rg b a s next → HasRoom (phase s) (roomIn P S v on side t)
+  pub room-own : (side : Side) (g : Sight) → g .room ≡ roomIn P S v on side t → (s next : Step) → Leads g s next → HasRoom (phase s) (roomIn P S v on side t)
       → HasRoom (phase next) (roomIn P S v on side (told (nextAt s side (p .counter))))
-  room-own side x z m rg b a s next idles y = tt
-  room-own side x z m rg b a s next (finds h) y = h
-  room-own side x z m rg b a s next (blocks h q) y = tt
-  room-own side x z m rg b a s next (gives-up h q) y = tt
-  room-own side x z m rg b a s next copies y = rw (copy-room side) y
-  room-own side x z m rg b a s next spills y = tt
-  room-own side x z m rg b a s next (tells h) y = tt
-  room-own side x z m rg b a s next (stores h) y = tt
-  room-own side x z m rg b a s next (owes h) y = tt
-  room-own side x z m rg b a s next (passes h) y = tt
-  room-own side x z m rg b a s next raises y = tt
-  room-own side x z m rg b a s next wakes y = tt
-  room-own side x z m rg b a s next (enters h o) y = rw (asks _ _ o) tt
-  room-own side x z m rg b a s next (finds-spin h) y = h
-  room-own side x z m rg b a s next (spins h o) y = rw (asks _ _ o) tt
-  room-own side x z m rg b a s next (stops h) y = tt
-  room-own side x z m rg b a s next reads y = tt
-  room-own side x z m rg b a s next (finds-again h) y = h
-  room-own side x z m rg b a s next (stays h) y = tt
-  room-own side x z m rg b a s next (enters-again h) y = tt
-  room-own side x z m rg b a s next (stops-again h) y = tt
-  room-own side x z m rg b a s next (sleeps h) y = tt
-  room-own side x z m rg b a s next returns y = tt
-  room-own side x z m rg b a s next ends y = tt
-  room-own side x z m rg b a s next dreams y = tt
-  room-own side x z m rg b a s next (glances h) y = tt
-  room-own side x z m rg b a s next (glances-again h) y = tt
-  room-own side x z m rg b a s next times-out y = tt
-  room-own side x z m rg b a s next (finds-last h) y = h
-  room-own side x z m rg b a s next (finds-none h) y = tt
-  room-own side x z m rg b a s next (closes h) y = tt
-  room-own side x z m rg b a s next (closes-alone h) y = tt
-  room-own side x z m rg b a s next close-raises y = tt
-  room-own side x z m rg b a s next close-wakes y = tt
-  room-own side x z m rg b a s next shuts y = tt
-  room-own side x z m rg b a s next shut-raises y = tt
-  room-own side x z m rg b a s next shut-wakes y = tt
-  room-own side x z m rg b a s next shut-raises-again y = tt
-  room-own side x z m rg b a s next shut-wakes-again y = tt
+  room-own side g at s next idles y = tt
+  room-own side g at s next (finds h) y = rw (sym at) h
+  room-own side g at s next (blocks h q) y = tt
+  room-own side g at s next (gives-up h q) y = tt
+  room-own side g at s next copies y = rw (copy-room side) y
+  room-own side g at s next spills y = tt
+  room-own side g at s next (tells h) y = tt
+  room-own side g at s next (stores h) y = tt
+  room-own side g at s next (owes h) y = tt
+  room-own side g at s next (passes h) y = tt
+  room-own side g at s next raises y = tt
+  room-own side g at s next wakes y = tt
+  room-own side g at s next (enters h o) y = rw (asks _ _ o) tt
+  room-own side g at s next (finds-spin h) y = rw (sym at) h
+  room-own side g at s next (spins h o) y = rw (asks _ _ o) tt
+  room-own side g at s next (stops h) y = tt
+  room-own side g at s next reads y = tt
+  room-own side g at s next (finds-again h) y = rw (sym at) h
+  room-own side g at s next (stays h) y = tt
+  room-own side g at s next (enters-again h) y = tt
+  room-own side g at s next (stops-again h) y = tt
+  room-own side g at s next (sleeps h) y = tt
+  room-own side g at s next returns y = tt
+  room-own side g at s next ends y = tt
+  room-own side g at s next dreams y = tt
+  room-own side g at s next (glances u h) y = tt
+  room-own side g at s next (glances-again u h) y = tt
+  room-own side g at s next times-out y = tt
+  room-own side g at s next (finds-last h) y = rw (sym at) h
+  room-own side g at s next (finds-none h) y = tt
+  room-own side g at s next (closes h) y = tt
+  room-own side g at s next (closes-alone h) y = tt
+  room-own side g at s next close-raises y = tt
+  room-own side g at s next close-wakes y = tt
+  room-own side g at s next shuts y = tt
+  room-own side g at s next shut-raises y = tt
+  room-own side g at s next shut-wakes y = tt
+  room-own side g at s next shut-raises-again y = tt
+  room-own side g at s next shut-wakes-again y = tt
 
   -- what the mover has in hand, but for a copy
   told-hand : (side : Side) (l g : ℕ) → p .step ≡ Publish l g → InHand P S v on side (publishing l g) r t
@@ -170,47 +170,47 @@ module _ (P S v : ℕ) (on : Bool) (power-ok : powerOk P ≡ true) (slot-ok : sl
   rung-hand Sender l g r′ y = tt
   rung-hand Recorder l g r′ y = y
 
-  pub hand-own : (side : Side) (k x : ℕ) (z : Door) (m rg : Bool) (b a : ℕ) (s next : Step) → p .step ≡ s → (s ≡ Copy → ⊥) → Leads k x z m rg b a s next → InHand P S v on side (phase s) r t
+  pub hand-own : (side : Side) (g : Sight) (s next : Step) → p .step ≡ s → (s ≡ Copy → ⊥) → Leads g s next → InHand P S v on side (phase s) r t
       → InHand P S v on side (phase next) (left (nextAt s side (p .counter))) (told (nextAt s side (p .counter)))
-  hand-own side k x z m rg b a s next at u idles y = in-hand-none P S v on side (phase next) (left (nextAt s side (p .counter))) (told (nextAt s side (p .counter))) tt
-  hand-own side k x z m rg b a s next at u (finds h) y = in-hand-none P S v on side (phase next) (left (nextAt s side (p .counter))) (told (nextAt s side (p .counter))) tt
-  hand-own side k x z m rg b a s next at u (blocks h q) y = in-hand-none P S v on side (phase next) (left (nextAt s side (p .counter))) (told (nextAt s side (p .counter))) tt
-  hand-own side k x z m rg b a s next at u (gives-up h q) y = in-hand-none P S v on side (phase next) (left (nextAt s side (p .counter))) (told (nextAt s side (p .counter))) tt
-  hand-own side k x z m rg b a s next at u copies y = absurd (u refl)
-  hand-own side k x z m rg b a s next at u spills y = absurd (u refl)
-  hand-own side k x z m rg b a s next at u (tells {l = l} {t = g} h) y = told-hand side l g at y
-  hand-own side k x z m rg b a s next at u (stores h) y = in-hand-none P S v on side (phase next) (left (nextAt s side (p .counter))) (told (nextAt s side (p .counter))) tt
-  hand-own side k x z m rg b a s next at u (owes {l = l} {t = g} h) y = still-hand side l g (left (nextAt s side (p .counter))) y
-  hand-own side k x z m rg b a s next at u (passes h) y = in-hand-none P S v on side (phase next) (left (nextAt s side (p .counter))) (told (nextAt s side (p .counter))) tt
-  hand-own side k x z m rg b a s next at u (raises {l = l} {t = g}) y = rung-hand side l g (left (nextAt s side (p .counter))) y
-  hand-own side k x z m rg b a s next at u wakes y = in-hand-none P S v on side (phase next) (left (nextAt s side (p .counter))) (told (nextAt s side (p .counter))) tt
-  hand-own side k x z m rg b a s next at u (enters h o) y = in-hand-none P S v on side (phase next) (left (nextAt s side (p .counter))) (told (nextAt s side (p .counter))) (rw (asks _ _ o) tt)
-  hand-own side k x z m rg b a s next at u (finds-spin h) y = in-hand-none P S v on side (phase next) (left (nextAt s side (p .counter))) (told (nextAt s side (p .counter))) tt
-  hand-own side k x z m rg b a s next at u (spins h o) y = in-hand-none P S v on side (phase next) (left (nextAt s side (p .counter))) (told (nextAt s side (p .counter))) (rw (asks _ _ o) tt)
-  hand-own side k x z m rg b a s next at u (stops h) y = in-hand-none P S v on side (phase next) (left (nextAt s side (p .counter))) (told (nextAt s side (p .counter))) tt
-  hand-own side k x z m rg b a s next at u reads y = in-hand-none P S v on side (phase next) (left (nextAt s side (p .counter))) (told (nextAt s side (p .counter))) tt
-  hand-own side k x z m rg b a s next at u (finds-again h) y = in-hand-none P S v on side (phase next) (left (nextAt s side (p .counter))) (told (nextAt s side (p .counter))) tt
-  hand-own side k x z m rg b a s next at u (stays h) y = in-hand-none P S v on side (phase next) (left (nextAt s side (p .counter))) (told (nextAt s side (p .counter))) tt
-  hand-own side k x z m rg b a s next at u (enters-again h) y = in-hand-none P S v on side (phase next) (left (nextAt s side (p .counter))) (told (nextAt s side (p .counter))) tt
-  hand-own side k x z m rg b a s next at u (stops-again h) y = in-hand-none P S v on side (phase next) (left (nextAt s side (p .counter))) (told (nextAt s side (p .counter))) tt
-  hand-own side k x z m rg b a s next at u (sleeps h) y = in-hand-none P S v on side (phase next) (left (nextAt s side (p .counter))) (told (nextAt s side (p .counter))) tt
-  hand-own side k x z m rg b a s next at u returns y = in-hand-none P S v on side (phase next) (left (nextAt s side (p .counter))) (told (nextAt s side (p .counter))) tt
-  hand-own side k x z m rg b a s next at u ends y = in-hand-none P S v on side (phase next) (left (nextAt s side (p .counter))) (told (nextAt s side (p .counter))) tt
-  hand-own side k x z m rg b a s next at u dreams y = in-hand-none P S v on side (phase next) (left (nextAt s side (p .counter))) (told (nextAt s side (p .counter))) tt
-  hand-own side k x z m rg b a s next at u (glances h) y = in-hand-none P S v on side (phase next) (left (nextAt s side (p .counter))) (told (nextAt s side (p .counter))) tt
-  hand-own side k x z m rg b a s next at u (glances-again h) y = in-hand-none P S v on side (phase next) (left (nextAt s side (p .counter))) (told (nextAt s side (p .counter))) tt
-  hand-own side k x z m rg b a s next at u times-out y = in-hand-none P S v on side (phase next) (left (nextAt s side (p .counter))) (told (nextAt s side (p .counter))) tt
-  hand-own side k x z m rg b a s next at u (finds-last h) y = in-hand-none P S v on side (phase next) (left (nextAt s side (p .counter))) (told (nextAt s side (p .counter))) tt
-  hand-own side k x z m rg b a s next at u (finds-none h) y = in-hand-none P S v on side (phase next) (left (nextAt s side (p .counter))) (told (nextAt s side (p .counter))) tt
-  hand-own side k x z m rg b a s next at u (closes h) y = in-hand-none P S v on side (phase next) (left (nextAt s side (p .counter))) (told (nextAt s side (p .counter))) tt
-  hand-own side k x z m rg b a s next at u (closes-alone h) y = in-hand-none P S v on side (phase next) (left (nextAt s side (p .counter))) (told (nextAt s side (p .counter))) tt
-  hand-own side k x z m rg b a s next at u close-raises y = in-hand-none P S v on side (phase next) (left (nextAt s side (p .counter))) (told (nextAt s side (p .counter))) tt
-  hand-own side k x z m rg b a s next at u close-wakes y = in-hand-none P S v on side (phase next) (left (nextAt s side (p .counter))) (told (nextAt s side (p .counter))) tt
-  hand-own side k x z m rg b a s next at u shuts y = in-hand-none P S v on side (phase next) (left (nextAt s side (p .counter))) (told (nextAt s side (p .counter))) tt
-  hand-own side k x z m rg b a s next at u shut-raises y = in-hand-none P S v on side (phase next) (left (nextAt s side (p .counter))) (told (nextAt s side (p .counter))) tt
-  hand-own side k x z m rg b a s next at u shut-wakes y = in-hand-none P S v on side (phase next) (left (nextAt s side (p .counter))) (told (nextAt s side (p .counter))) tt
-  hand-own side k x z m rg b a s next at u shut-raises-again y = in-hand-none P S v on side (phase next) (left (nextAt s side (p .counter))) (told (nextAt s side (p .counter))) tt
-  hand-own side k x z m rg b a s next at u shut-wakes-again y = in-hand-none P S v on side (phase next) (left (nextAt s side (p .counter))) (told (nextAt s side (p .counter))) tt
+  hand-own side g s next at u idles y = in-hand-none P S v on side (phase next) (left (nextAt s side (p .counter))) (told (nextAt s side (p .counter))) tt
+  hand-own side g s next at u (finds h) y = in-hand-none P S v on side (phase next) (left (nextAt s side (p .counter))) (told (nextAt s side (p .counter))) tt
+  hand-own side g s next at u (blocks h q) y = in-hand-none P S v on side (phase next) (left (nextAt s side (p .counter))) (told (nextAt s side (p .counter))) tt
+  hand-own side g s next at u (gives-up h q) y = in-hand-none P S v on side (phase next) (left (nextAt s side (p .counter))) (told (nextAt s side (p .counter))) tt
+  hand-own side g s next at u copies y = absurd (u refl)
+  hand-own side g s next at u spills y = absurd (u refl)
+  hand-own side g s next at u (tells {l = l} {t = i} h) y = told-hand side l i at y
+  hand-own side g s next at u (stores h) y = in-hand-none P S v on side (phase next) (left (nextAt s side (p .counter))) (told (nextAt s side (p .counter))) tt
+  hand-own side g s next at u (owes {l = l} {t = i} h) y = still-hand side l i (left (nextAt s side (p .counter))) y
+  hand-own side g s next at u (passes h) y = in-hand-none P S v on side (phase next) (left (nextAt s side (p .counter))) (told (nextAt s side (p .counter))) tt
+  hand-own side g s next at u (raises {l = l} {t = i}) y = rung-hand side l i (left (nextAt s side (p .counter))) y
+  hand-own side g s next at u wakes y = in-hand-none P S v on side (phase next) (left (nextAt s side (p .counter))) (told (nextAt s side (p .counter))) tt
+  hand-own side g s next at u (enters h o) y = in-hand-none P S v on side (phase next) (left (nextAt s side (p .counter))) (told (nextAt s side (p .counter))) (rw (asks _ _ o) tt)
+  hand-own side g s next at u (finds-spin h) y = in-hand-none P S v on side (phase next) (left (nextAt s side (p .counter))) (told (nextAt s side (p .counter))) tt
+  hand-own side g s next at u (spins h o) y = in-hand-none P S v on side (phase next) (left (nextAt s side (p .counter))) (told (nextAt s side (p .counter))) (rw (asks _ _ o) tt)
+  hand-own side g s next at u (stops h) y = in-hand-none P S v on side (phase next) (left (nextAt s side (p .counter))) (told (nextAt s side (p .counter))) tt
+  hand-own side g s next at u reads y = in-hand-none P S v on side (phase next) (left (nextAt s side (p .counter))) (told (nextAt s side (p .counter))) tt
+  hand-own side g s next at u (finds-again h) y = in-hand-none P S v on side (phase next) (left (nextAt s side (p .counter))) (told (nextAt s side (p .counter))) tt
+  hand-own side g s next at u (stays h) y = in-hand-none P S v on side (phase next) (left (nextAt s side (p .counter))) (told (nextAt s side (p .counter))) tt
+  hand-own side g s next at u (enters-again h) y = in-hand-none P S v on side (phase next) (left (nextAt s side (p .counter))) (told (nextAt s side (p .counter))) tt
+  hand-own side g s next at u (stops-again h) y = in-hand-none P S v on side (phase next) (left (nextAt s side (p .counter))) (told (nextAt s side (p .counter))) tt
+  hand-own side g s next at u (sleeps h) y = in-hand-none P S v on side (phase next) (left (nextAt s side (p .counter))) (told (nextAt s side (p .counter))) tt
+  hand-own side g s next at u returns y = in-hand-none P S v on side (phase next) (left (nextAt s side (p .counter))) (told (nextAt s side (p .counter))) tt
+  hand-own side g s next at u ends y = in-hand-none P S v on side (phase next) (left (nextAt s side (p .counter))) (told (nextAt s side (p .counter))) tt
+  hand-own side g s next at u dreams y = in-hand-none P S v on side (phase next) (left (nextAt s side (p .counter))) (told (nextAt s side (p .counter))) tt
+  hand-own side g s next at u (glances i h) y = in-hand-none P S v on side (phase next) (left (nextAt s side (p .counter))) (told (nextAt s side (p .counter))) tt
+  hand-own side g s next at u (glances-again i h) y = in-hand-none P S v on side (phase next) (left (nextAt s side (p .counter))) (told (nextAt s side (p .counter))) tt
+  hand-own side g s next at u times-out y = in-hand-none P S v on side (phase next) (left (nextAt s side (p .counter))) (told (nextAt s side (p .counter))) tt
+  hand-own side g s next at u (finds-last h) y = in-hand-none P S v on side (phase next) (left (nextAt s side (p .counter))) (told (nextAt s side (p .counter))) tt
+  hand-own side g s next at u (finds-none h) y = in-hand-none P S v on side (phase next) (left (nextAt s side (p .counter))) (told (nextAt s side (p .counter))) tt
+  hand-own side g s next at u (closes h) y = in-hand-none P S v on side (phase next) (left (nextAt s side (p .counter))) (told (nextAt s side (p .counter))) tt
+  hand-own side g s next at u (closes-alone h) y = in-hand-none P S v on side (phase next) (left (nextAt s side (p .counter))) (told (nextAt s side (p .counter))) tt
+  hand-own side g s next at u close-raises y = in-hand-none P S v on side (phase next) (left (nextAt s side (p .counter))) (told (nextAt s side (p .counter))) tt
+  hand-own side g s next at u close-wakes y = in-hand-none P S v on side (phase next) (left (nextAt s side (p .counter))) (told (nextAt s side (p .counter))) tt
+  hand-own side g s next at u shuts y = in-hand-none P S v on side (phase next) (left (nextAt s side (p .counter))) (told (nextAt s side (p .counter))) tt
+  hand-own side g s next at u shut-raises y = in-hand-none P S v on side (phase next) (left (nextAt s side (p .counter))) (told (nextAt s side (p .counter))) tt
+  hand-own side g s next at u shut-wakes y = in-hand-none P S v on side (phase next) (left (nextAt s side (p .counter))) (told (nextAt s side (p .counter))) tt
+  hand-own side g s next at u shut-raises-again y = in-hand-none P S v on side (phase next) (left (nextAt s side (p .counter))) (told (nextAt s side (p .counter))) tt
+  hand-own side g s next at u shut-wakes-again y = in-hand-none P S v on side (phase next) (left (nextAt s side (p .counter))) (told (nextAt s side (p .counter))) tt
 
   -- a sender's turn touches no buffer and takes no note away
   pub record SenderKeeps (u : Trace) : Type 0 where

@@ -14,7 +14,7 @@ use Rattle.rules.specs.Next.{nextAt}
 use Rattle.rules.specs.Phase.{Phase, resting, looking, copying, publishing, telling, asking, armed, poised, waits, sleeps, glancing, leaving}
 use Rattle.rules.specs.Take.{stanceOf}
 use Rattle.rules.proofs.Does.{otherAfter}
-use Rattle.rules.proofs.Leads.{Onward, straight, around, Leads, idles, finds, blocks, gives-up, copies, spills, tells, stores, owes, passes, raises, wakes, enters, stops, finds-spin, spins, reads, finds-again, stays, enters-again, stops-again, returns, ends, dreams, glances, glances-again, times-out, finds-last, finds-none, closes, closes-alone, close-raises, close-wakes, shuts, shut-raises, shut-wakes, shut-raises-again, shut-wakes-again, sleeps as falls-asleep}
+use Rattle.rules.proofs.Leads.{Sight, Onward, straight, around, Leads, idles, finds, blocks, gives-up, copies, spills, tells, stores, owes, passes, raises, wakes, enters, stops, finds-spin, spins, reads, finds-again, stays, enters-again, stops-again, returns, ends, dreams, glances, glances-again, times-out, finds-last, finds-none, closes, closes-alone, close-raises, close-wakes, shuts, shut-raises, shut-wakes, shut-raises-again, shut-wakes-again, sleeps as falls-asleep}
 
 -- a party with room, or that should stop, has cause not to sleep
 abbrev pub Cause : (room : ℕ) → (stop : Bool) → Type 0
@@ -249,49 +249,49 @@ setsNone s = setsNo (nextAt s Sender 0)
 
 -- a turn of the other's keeps what the waiter relies on. x is the waiter's room as the mover checks it, ok whether no failure
 -- was announced
-pub theirs : (side : Side) (k′ x : ℕ) (zz : Door) (m r : Bool) (b a : ℕ) (s next : Step) → Leads k′ x zz m r b a s next → r ≡ true → (ok : Bool) (ph : Phase) (n : ℕ) (z z′ : Bool)
+pub theirs : (side : Side) (g : Sight) (s next : Step) → Leads g s next → g .rings ≡ true → (ok : Bool) (ph : Phase) (n : ℕ) (z z′ : Bool)
     → (setsNone s ≡ true → z′ ≡ z) → (wakesAt side s ≡ true → ph ≡ sleeps → ok ≡ true)
-    → Good ph n x z (duty side s) → Good (risen (wakesAt side s && ok) ph) (rungBy side s n) (roomBy s x) z′ (duty side next)
-theirs side k′ x zz m r b a s next idles t ok ph n z z′ f l y = rw (f refl) y
-theirs side k′ x zz m r b a s next (finds h) t ok ph n z z′ f l y = rw (f refl) (calm ph n x z _ y)
-theirs side k′ x zz m r b a s next (blocks h q) t ok ph n z z′ f l y = rw (f refl) (calm ph n x z _ y)
-theirs side k′ x zz m r b a s next (gives-up h q) t ok ph n z z′ f l y = rw (f refl) (calm ph n x z _ y)
-theirs side k′ x zz m r b a s next copies t ok ph n z z′ f l y = rw (f refl) (calm ph n x z _ y)
-theirs side k′ x zz m r b a s next spills t ok ph n z z′ f l y = rw (f refl) (calm ph n x z _ y)
-theirs side k′ x zz m r b a s next (tells h) t ok ph n z z′ f l y = rw (f refl) (stored ph n x z y)
-theirs side k′ x zz m r b a s next (stores h) t ok ph n z z′ f l y = absurd (let u : _≡_ {A = ℕ} 0 1 = cc in omega arith)
-theirs side k′ x zz m r b a s next (owes h) t ok ph n z z′ f l y = rw (f refl) (rings-it ph n x z h y)
-theirs side k′ x zz m r b a s next (passes h) t ok ph n z z′ f l y = rw (f refl) (lets-be ph n x z h y)
-theirs side k′ x zz m r b a s next raises t ok ph n z z′ f l y = rw (f refl) (belled ph n x z y)
-theirs side k′ x zz m r b a s next wakes t ok ph n z z′ f l y = rw (f refl) (landed-good ok ph n x z (l refl) y)
-theirs side k′ x zz m r b a s next (enters h o) t ok ph n z z′ f l y = rw (f refl, owes-none side _ next o) (calm ph n x z _ y)
-theirs side k′ x zz m r b a s next (finds-spin h) t ok ph n z z′ f l y = rw (f refl) (calm ph n x z _ y)
-theirs side k′ x zz m r b a s next (spins h o) t ok ph n z z′ f l y = rw (f refl, owes-none side _ next o) (calm ph n x z _ y)
-theirs side k′ x zz m r b a s next (stops h) t ok ph n z z′ f l y = rw (f refl) (calm ph n x z _ y)
-theirs side k′ x zz m r b a s next reads t ok ph n z z′ f l y = rw (f refl) (calm ph n x z _ y)
-theirs side k′ x zz m r b a s next (finds-again h) t ok ph n z z′ f l y = rw (f refl) (calm ph n x z _ y)
-theirs side k′ x zz m r b a s next (stays h) t ok ph n z z′ f l y = rw (f refl) (calm ph n x z _ y)
-theirs side k′ x zz m r b a s next (enters-again h) t ok ph n z z′ f l y = rw (f refl) (calm ph n x z _ y)
-theirs side k′ x zz m r b a s next (stops-again h) t ok ph n z z′ f l y = rw (f refl) (calm ph n x z _ y)
-theirs side k′ x zz m r b a s next (falls-asleep h) t ok ph n z z′ f l y = rw (f refl) (calm ph n x z _ y)
-theirs side k′ x zz m r b a s next returns t ok ph n z z′ f l y = rw (f refl) (calm ph n x z _ y)
-theirs side k′ x zz m r b a s next ends t ok ph n z z′ f l y = rw (f refl) (calm ph n x z _ y)
-theirs side k′ x zz m r b a s next dreams t ok ph n z z′ f l y = rw (f refl) y
-theirs side k′ x zz m r b a s next (glances h) t ok ph n z z′ f l y = rw (f refl) (calm ph n x z _ y)
-theirs side k′ x zz m r b a s next (glances-again h) t ok ph n z z′ f l y = rw (f refl) (calm ph n x z _ y)
-theirs side k′ x zz m r b a s next times-out t ok ph n z z′ f l y = rw (f refl) (calm ph n x z _ y)
-theirs side k′ x zz m r b a s next (finds-last h) t ok ph n z z′ f l y = rw (f refl) (calm ph n x z _ y)
-theirs side k′ x zz m r b a s next (finds-none h) t ok ph n z z′ f l y = rw (f refl) (calm ph n x z _ y)
-theirs side k′ x zz m r b a s next (closes h) t ok ph n z z′ f l y = flagged ph n x z z′ _ y
-theirs side k′ x zz m r b a s next (closes-alone h) t ok ph n z z′ f l y = absurd (let u : _≡_ {A = ℕ} 0 1 = cc in omega arith)
-theirs side k′ x zz m r b a s next close-raises t ok ph n z z′ f l y = rw (f refl) (belled ph n x z y)
-theirs side k′ x zz m r b a s next close-wakes t ok ph n z z′ f l y = rw (f refl) (landed-good ok ph n x z (l refl) y)
-theirs side k′ x zz m r b a s next shuts t ok ph n z z′ f l y = flagged ph n x z z′ _ y
-theirs Sender k′ x zz m r b a s next shut-raises t ok ph n z z′ f l y = rw (f refl) (belled ph n x z y)
-theirs Recorder k′ x zz m r b a s next shut-raises t ok ph n z z′ f l y = rw (f refl) y
-theirs Sender k′ x zz m r b a s next shut-wakes t ok ph n z z′ f l y = rw (f refl) (landed-good ok ph n x z (l refl) y)
-theirs Recorder k′ x zz m r b a s next shut-wakes t ok ph n z z′ f l y = rw (f refl) y
-theirs Sender k′ x zz m r b a s next shut-raises-again t ok ph n z z′ f l y = rw (f refl) y
-theirs Recorder k′ x zz m r b a s next shut-raises-again t ok ph n z z′ f l y = rw (f refl) (belled ph n x z y)
-theirs Sender k′ x zz m r b a s next shut-wakes-again t ok ph n z z′ f l y = rw (f refl) y
-theirs Recorder k′ x zz m r b a s next shut-wakes-again t ok ph n z z′ f l y = rw (f refl) (landed-good ok ph n x z (l refl) y)
+    → Good ph n (g .theirs) z (duty side s) → Good (risen (wakesAt side s && ok) ph) (rungBy side s n) (roomBy s (g .theirs)) z′ (duty side next)
+theirs side g s next idles t ok ph n z z′ f l y = rw (f refl) y
+theirs side g s next (finds h) t ok ph n z z′ f l y = rw (f refl) (calm ph n (g .theirs) z _ y)
+theirs side g s next (blocks h q) t ok ph n z z′ f l y = rw (f refl) (calm ph n (g .theirs) z _ y)
+theirs side g s next (gives-up h q) t ok ph n z z′ f l y = rw (f refl) (calm ph n (g .theirs) z _ y)
+theirs side g s next copies t ok ph n z z′ f l y = rw (f refl) (calm ph n (g .theirs) z _ y)
+theirs side g s next spills t ok ph n z z′ f l y = rw (f refl) (calm ph n (g .theirs) z _ y)
+theirs side g s next (tells h) t ok ph n z z′ f l y = rw (f refl) (stored ph n (g .theirs) z y)
+theirs side g s next (stores h) t ok ph n z z′ f l y = absurd (let u : _≡_ {A = ℕ} 0 1 = cc in omega arith)
+theirs side g s next (owes h) t ok ph n z z′ f l y = rw (f refl) (rings-it ph n (g .theirs) z h y)
+theirs side g s next (passes h) t ok ph n z z′ f l y = rw (f refl) (lets-be ph n (g .theirs) z h y)
+theirs side g s next raises t ok ph n z z′ f l y = rw (f refl) (belled ph n (g .theirs) z y)
+theirs side g s next wakes t ok ph n z z′ f l y = rw (f refl) (landed-good ok ph n (g .theirs) z (l refl) y)
+theirs side g s next (enters h o) t ok ph n z z′ f l y = rw (f refl, owes-none side _ next o) (calm ph n (g .theirs) z _ y)
+theirs side g s next (finds-spin h) t ok ph n z z′ f l y = rw (f refl) (calm ph n (g .theirs) z _ y)
+theirs side g s next (spins h o) t ok ph n z z′ f l y = rw (f refl, owes-none side _ next o) (calm ph n (g .theirs) z _ y)
+theirs side g s next (stops h) t ok ph n z z′ f l y = rw (f refl) (calm ph n (g .theirs) z _ y)
+theirs side g s next reads t ok ph n z z′ f l y = rw (f refl) (calm ph n (g .theirs) z _ y)
+theirs side g s next (finds-again h) t ok ph n z z′ f l y = rw (f refl) (calm ph n (g .theirs) z _ y)
+theirs side g s next (stays h) t ok ph n z z′ f l y = rw (f refl) (calm ph n (g .theirs) z _ y)
+theirs side g s next (enters-again h) t ok ph n z z′ f l y = rw (f refl) (calm ph n (g .theirs) z _ y)
+theirs side g s next (stops-again h) t ok ph n z z′ f l y = rw (f refl) (calm ph n (g .theirs) z _ y)
+theirs side g s next (falls-asleep h) t ok ph n z z′ f l y = rw (f refl) (calm ph n (g .theirs) z _ y)
+theirs side g s next returns t ok ph n z z′ f l y = rw (f refl) (calm ph n (g .theirs) z _ y)
+theirs side g s next ends t ok ph n z z′ f l y = rw (f refl) (calm ph n (g .theirs) z _ y)
+theirs side g s next dreams t ok ph n z z′ f l y = rw (f refl) y
+theirs side g s next (glances u h) t ok ph n z z′ f l y = rw (f refl) (calm ph n (g .theirs) z _ y)
+theirs side g s next (glances-again u h) t ok ph n z z′ f l y = rw (f refl) (calm ph n (g .theirs) z _ y)
+theirs side g s next times-out t ok ph n z z′ f l y = rw (f refl) (calm ph n (g .theirs) z _ y)
+theirs side g s next (finds-last h) t ok ph n z z′ f l y = rw (f refl) (calm ph n (g .theirs) z _ y)
+theirs side g s next (finds-none h) t ok ph n z z′ f l y = rw (f refl) (calm ph n (g .theirs) z _ y)
+theirs side g s next (closes h) t ok ph n z z′ f l y = flagged ph n (g .theirs) z z′ _ y
+theirs side g s next (closes-alone h) t ok ph n z z′ f l y = absurd (let u : _≡_ {A = ℕ} 0 1 = cc in omega arith)
+theirs side g s next close-raises t ok ph n z z′ f l y = rw (f refl) (belled ph n (g .theirs) z y)
+theirs side g s next close-wakes t ok ph n z z′ f l y = rw (f refl) (landed-good ok ph n (g .theirs) z (l refl) y)
+theirs side g s next shuts t ok ph n z z′ f l y = flagged ph n (g .theirs) z z′ _ y
+theirs Sender g s next shut-raises t ok ph n z z′ f l y = rw (f refl) (belled ph n (g .theirs) z y)
+theirs Recorder g s next shut-raises t ok ph n z z′ f l y = rw (f refl) y
+theirs Sender g s next shut-wakes t ok ph n z z′ f l y = rw (f refl) (landed-good ok ph n (g .theirs) z (l refl) y)
+theirs Recorder g s next shut-wakes t ok ph n z z′ f l y = rw (f refl) y
+theirs Sender g s next shut-raises-again t ok ph n z z′ f l y = rw (f refl) y
+theirs Recorder g s next shut-raises-again t ok ph n z z′ f l y = rw (f refl) (belled ph n (g .theirs) z y)
+theirs Sender g s next shut-wakes-again t ok ph n z z′ f l y = rw (f refl) y
+theirs Recorder g s next shut-wakes-again t ok ph n z z′ f l y = rw (f refl) (landed-good ok ph n (g .theirs) z (l refl) y)

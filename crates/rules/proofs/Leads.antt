@@ -1,5 +1,4 @@
--- Where a turn may lead, with what it then knows: one row a way. k is the own room, x the other's, z what the flags say to it,
--- m whether it blocks, r whether it rings, b its bell, a how often it spins.
+-- Where a turn may lead, with what it then knows: one row a way.
 use mathlib.Core.Path.{_≡_, refl, sym, ap, _∙_}
 use mathlib.Core.Bool.{Bool, true, false, _||_}
 use Prim.Native.Nat.{ℕ, zero, suc, _-_, _%_, _^_, _<_}
@@ -71,57 +70,69 @@ pub asks : (n : ℕ) (t : Step) → Onward n t → phase t ≡ asking
 asks n t straight = refl
 asks n t (around m) = refl
 
-pub data Leads (k x : ℕ) (z : Door) (m r : Bool) (b a : ℕ) : Step → Step → Type 0 where
-  idles : Leads k x z m r b a Rest Rest
-  finds : 0 < k → Leads k x z m r b a Look Copy
-  blocks : k ≡ 0 → m ≡ true → Leads k x z m r b a Look Gate
-  gives-up : k ≡ 0 → m ≡ false → Leads k x z m r b a Look Rest
-  copies : {l t : ℕ} → Leads k x z m r b a Copy (Publish l t)
-  spills : Leads k x z m r b a Copy Rest
-  tells : {l t : ℕ} → r ≡ true → Leads k x z m r b a (Publish l t) (Check l t)
-  stores : {l t : ℕ} → r ≡ false → Leads k x z m r b a (Publish l t) Rest
-  owes : {l t : ℕ} → x ≡ 1 → Leads k x z m r b a (Check l t) (Raise l t)
-  passes : {l t : ℕ} → (x ≡ 1 → ⊥) → Leads k x z m r b a (Check l t) Rest
-  raises : {l t : ℕ} → Leads k x z m r b a (Raise l t) (Wake l t)
-  wakes : {l t : ℕ} → Leads k x z m r b a (Wake l t) Rest
-  enters : {t : Step} → z ≡ Open → Onward a t → Leads k x z m r b a Gate t
-  stops : barred z ≡ true → Leads k x z m r b a Gate Rest
-  finds-spin : {n : ℕ} → 0 < k → Leads k x z m r b a (Spin n) Copy
-  spins : {n : ℕ} {t : Step} → k ≡ 0 → Onward n t → Leads k x z m r b a (Spin n) t
-  reads : Leads k x z m r b a Epoch (Again (b % 2 ^ 32))
-  finds-again : {e : ℕ} → 0 < k → Leads k x z m r b a (Again e) Copy
-  stays : {e : ℕ} → k ≡ 0 → Leads k x z m r b a (Again e) (GateAgain e)
-  enters-again : {e : ℕ} → z ≡ Open → Leads k x z m r b a (GateAgain e) (Wait e)
-  stops-again : {e : ℕ} → barred z ≡ true → Leads k x z m r b a (GateAgain e) Rest
-  sleeps : {e : ℕ} → b ≡ e → Leads k x z m r b a (Wait e) Asleep
-  returns : {e : ℕ} → Leads k x z m r b a (Wait e) Look
-  ends : {e : ℕ} → Leads k x z m r b a (Wait e) Rest
-  dreams : Leads k x z m r b a Asleep Asleep
-  glances : z ≡ Left → Leads k x z m r b a Gate (LastLook false)
-  glances-again : {e : ℕ} → z ≡ Left → Leads k x z m r b a (GateAgain e) (LastLook false)
-  times-out : {e : ℕ} → Leads k x z m r b a (Wait e) (LastLook true)
-  finds-last : {c : Bool} → 0 < k → Leads k x z m r b a (LastLook c) Copy
-  finds-none : {c : Bool} → k ≡ 0 → Leads k x z m r b a (LastLook c) Rest
-  closes : r ≡ true → Leads k x z m r b a CloseSet CloseRaise
-  closes-alone : r ≡ false → Leads k x z m r b a CloseSet Rest
-  close-raises : Leads k x z m r b a CloseRaise CloseWake
-  close-wakes : Leads k x z m r b a CloseWake Rest
-  shuts : {c : Bool} → Leads k x z m r b a (ShutSet c) (ShutRaiseNe c)
-  shut-raises : {c : Bool} → Leads k x z m r b a (ShutRaiseNe c) (ShutWakeNe c)
-  shut-wakes : {c : Bool} {f : ℕ} → Leads k x z m r b a (ShutWakeNe c) (ShutRaiseNf c f)
-  shut-raises-again : {c : Bool} {f : ℕ} → Leads k x z m r b a (ShutRaiseNf c f) (ShutWakeNf c f)
-  shut-wakes-again : {c : Bool} {f : ℕ} → Leads k x z m r b a (ShutWakeNf c f) Rest
+-- what stands around a turn: whose it is, the rooms of both sides, what the flags say to it, whether it blocks and whether it
+-- rings, its bell, and how often it spins
+pub record Sight : Type 0 where
+  pub side : Side
+  pub room : ℕ
+  pub theirs : ℕ
+  pub door : Door
+  pub blocking : Bool
+  pub rings : Bool
+  pub bell : ℕ
+  pub spins : ℕ
 
-module _ (k x : ℕ) (z : Door) (m r : Bool) (b a : ℕ) where
+pub data Leads (g : Sight) : Step → Step → Type 0 where
+  idles : Leads g Rest Rest
+  finds : 0 < g .room → Leads g Look Copy
+  blocks : g .room ≡ 0 → g .blocking ≡ true → Leads g Look Gate
+  gives-up : g .room ≡ 0 → g .blocking ≡ false → Leads g Look Rest
+  copies : {l t : ℕ} → Leads g Copy (Publish l t)
+  spills : Leads g Copy Rest
+  tells : {l t : ℕ} → g .rings ≡ true → Leads g (Publish l t) (Check l t)
+  stores : {l t : ℕ} → g .rings ≡ false → Leads g (Publish l t) Rest
+  owes : {l t : ℕ} → g .theirs ≡ 1 → Leads g (Check l t) (Raise l t)
+  passes : {l t : ℕ} → (g .theirs ≡ 1 → ⊥) → Leads g (Check l t) Rest
+  raises : {l t : ℕ} → Leads g (Raise l t) (Wake l t)
+  wakes : {l t : ℕ} → Leads g (Wake l t) Rest
+  enters : {t : Step} → g .door ≡ Open → Onward (g .spins) t → Leads g Gate t
+  stops : barred (g .door) ≡ true → Leads g Gate Rest
+  finds-spin : {n : ℕ} → 0 < g .room → Leads g (Spin n) Copy
+  spins : {n : ℕ} {t : Step} → g .room ≡ 0 → Onward n t → Leads g (Spin n) t
+  reads : Leads g Epoch (Again (g .bell % 2 ^ 32))
+  finds-again : {e : ℕ} → 0 < g .room → Leads g (Again e) Copy
+  stays : {e : ℕ} → g .room ≡ 0 → Leads g (Again e) (GateAgain e)
+  enters-again : {e : ℕ} → g .door ≡ Open → Leads g (GateAgain e) (Wait e)
+  stops-again : {e : ℕ} → barred (g .door) ≡ true → Leads g (GateAgain e) Rest
+  sleeps : {e : ℕ} → g .bell ≡ e → Leads g (Wait e) Asleep
+  returns : {e : ℕ} → Leads g (Wait e) Look
+  ends : {e : ℕ} → Leads g (Wait e) Rest
+  dreams : Leads g Asleep Asleep
+  glances : g .side ≡ Recorder → g .door ≡ Left → Leads g Gate (LastLook false)
+  glances-again : {e : ℕ} → g .side ≡ Recorder → g .door ≡ Left → Leads g (GateAgain e) (LastLook false)
+  times-out : {e : ℕ} → Leads g (Wait e) (LastLook true)
+  finds-last : {c : Bool} → 0 < g .room → Leads g (LastLook c) Copy
+  finds-none : {c : Bool} → g .room ≡ 0 → Leads g (LastLook c) Rest
+  closes : g .rings ≡ true → Leads g CloseSet CloseRaise
+  closes-alone : g .rings ≡ false → Leads g CloseSet Rest
+  close-raises : Leads g CloseRaise CloseWake
+  close-wakes : Leads g CloseWake Rest
+  shuts : {c : Bool} → Leads g (ShutSet c) (ShutRaiseNe c)
+  shut-raises : {c : Bool} → Leads g (ShutRaiseNe c) (ShutWakeNe c)
+  shut-wakes : {c : Bool} {f : ℕ} → Leads g (ShutWakeNe c) (ShutRaiseNf c f)
+  shut-raises-again : {c : Bool} {f : ℕ} → Leads g (ShutRaiseNf c f) (ShutWakeNf c f)
+  shut-wakes-again : {c : Bool} {f : ℕ} → Leads g (ShutWakeNf c f) Rest
+
+module _ (g : Sight) where
   abbrev L : Step → Step → Type 0
-  L s t = Leads k x z m r b a s t
+  L s t = Leads g s t
 
-  look-leads : (side : Side) (j : ℕ) → k ≡ j → (n : Bool) → m ≡ n → L Look (stepAfter (roomMove (asRoom j) (blockedMove n side)) Look)
+  look-leads : (side : Side) (j : ℕ) → g .room ≡ j → (n : Bool) → g .blocking ≡ n → L Look (stepAfter (roomMove (asRoom j) (blockedMove n side)) Look)
   look-leads side (suc j) q n h = finds (omega arith)
   look-leads side zero q true h = blocks q h
   look-leads side zero q false h = gives-up q h
 
-  again-leads : (e j : ℕ) → k ≡ j → L (Again e) (stepAfter (roomMove (asRoom j) (To (GateAgain e))) (Again e))
+  again-leads : (e j : ℕ) → g .room ≡ j → L (Again e) (stepAfter (roomMove (asRoom j) (To (GateAgain e))) (Again e))
   again-leads e (suc j) q = finds-again (omega arith)
   again-leads e zero q = stays q
 
@@ -131,41 +142,41 @@ module _ (k x : ℕ) (z : Door) (m r : Bool) (b a : ℕ) where
   copy-leads Recorder Small l t = spills
   copy-leads Recorder Fits l t = copies
 
-  publish-leads : (l t : ℕ) (n : Bool) → r ≡ n → L (Publish l t) (stepAfter (pick n (To (Check l t)) (End (Done l t))) (Publish l t))
+  publish-leads : (l t : ℕ) (n : Bool) → g .rings ≡ n → L (Publish l t) (stepAfter (pick n (To (Check l t)) (End (Done l t))) (Publish l t))
   publish-leads l t true h = tells h
   publish-leads l t false h = stores h
 
-  check-leads : (l t : ℕ) (n : Bool) → eqb x 1 ≡ n → L (Check l t) (stepAfter (pick n (To (Raise l t)) (End (Done l t))) (Check l t))
-  check-leads l t true h = owes (eqb-true x 1 h)
-  check-leads l t false h = passes (eqb-false x 1 h)
+  check-leads : (l t : ℕ) (n : Bool) → eqb (g .theirs) 1 ≡ n → L (Check l t) (stepAfter (pick n (To (Raise l t)) (End (Done l t))) (Check l t))
+  check-leads l t true h = owes (eqb-true (g .theirs) 1 h)
+  check-leads l t false h = passes (eqb-false (g .theirs) 1 h)
 
-  gate-leads : (side : Side) (d : Door) → z ≡ d → L Gate (stepAfter (doorMove d side (toSpin a)) Gate)
-  gate-leads side Shut h = stops (ap barred h)
-  gate-leads Sender Left h = stops (ap barred h)
-  gate-leads Recorder Left h = glances h
-  gate-leads side Open h = enters h (onward a)
+  gate-leads : (side : Side) → g .side ≡ side → (d : Door) → g .door ≡ d → L Gate (stepAfter (doorMove d side (toSpin (g .spins))) Gate)
+  gate-leads side o Shut h = stops (ap barred h)
+  gate-leads Sender o Left h = stops (ap barred h)
+  gate-leads Recorder o Left h = glances o h
+  gate-leads side o Open h = enters h (onward (g .spins))
 
-  spin-leads : (n j : ℕ) → k ≡ j → L (Spin n) (stepAfter (roomMove (asRoom j) (To (toSpin n))) (Spin n))
+  spin-leads : (n j : ℕ) → g .room ≡ j → L (Spin n) (stepAfter (roomMove (asRoom j) (To (toSpin n))) (Spin n))
   spin-leads n (suc j) q = finds-spin (omega arith)
   spin-leads n zero q = spins q (onward n)
 
-  gate-again-leads : (side : Side) (e : ℕ) (d : Door) → z ≡ d → L (GateAgain e) (stepAfter (doorMove d side (Wait e)) (GateAgain e))
-  gate-again-leads side e Shut h = stops-again (ap barred h)
-  gate-again-leads Sender e Left h = stops-again (ap barred h)
-  gate-again-leads Recorder e Left h = glances-again h
-  gate-again-leads side e Open h = enters-again h
+  gate-again-leads : (side : Side) → g .side ≡ side → (e : ℕ) (d : Door) → g .door ≡ d → L (GateAgain e) (stepAfter (doorMove d side (Wait e)) (GateAgain e))
+  gate-again-leads side o e Shut h = stops-again (ap barred h)
+  gate-again-leads Sender o e Left h = stops-again (ap barred h)
+  gate-again-leads Recorder o e Left h = glances-again o h
+  gate-again-leads side o e Open h = enters-again h
 
-  wait-leads : (e op f : ℕ) (n : Nap) → (n ≡ Sleeps → b ≡ e) → L (Wait e) (stepAfter (napMove n op f) (Wait e))
+  wait-leads : (e op f : ℕ) (n : Nap) → (n ≡ Sleeps → g .bell ≡ e) → L (Wait e) (stepAfter (napMove n op f) (Wait e))
   wait-leads e op f Sleeps h = sleeps (h refl)
   wait-leads e op f Returns h = returns
   wait-leads e op f TimedOut h = times-out
   wait-leads e op f Fails h = ends
 
-  last-leads : (c : Bool) (j : ℕ) → k ≡ j → L (LastLook c) (stepAfter (roomMove (asRoom j) (End (pick c Timeout Closed))) (LastLook c))
+  last-leads : (c : Bool) (j : ℕ) → g .room ≡ j → L (LastLook c) (stepAfter (roomMove (asRoom j) (End (pick c Timeout Closed))) (LastLook c))
   last-leads c (suc j) q = finds-last (omega arith)
   last-leads c zero q = finds-none q
 
-  close-leads : (n : Bool) → r ≡ n → L CloseSet (stepAfter (pick n (To CloseRaise) (End (Done 0 0))) CloseSet)
+  close-leads : (n : Bool) → g .rings ≡ n → L CloseSet (stepAfter (pick n (To CloseRaise) (End (Done 0 0))) CloseSet)
   close-leads true h = closes h
   close-leads false h = closes-alone h
 
@@ -182,51 +193,55 @@ nap-sleeps f s e = by (eqb f 0) s (eqb f 4 || eqb f 11) (eqb f 110) e
     by false s false false e = absurd (let q : _≡_ {A = ℕ} 0 1 = cc in omega arith)
 
 -- what a turn's value has to say, by the step
-abbrev pub Tells : (own : Own) → (k x : ℕ) (z : Door) (b : ℕ) → (counter value : ℕ) → Step → Type 0
-Tells own k x z b c v Rest = Unit
-Tells own k x z b c v Look = roomOf (own .side) (capacity (own .power)) c v ≡ asRoom k
-Tells own k x z b c v Copy = Unit
-Tells own k x z b c v (Publish l t) = Unit
-Tells own k x z b c v (Check l t) = wasBlocked (own .side) (capacity (own .power)) c v ≡ eqb x 1
-Tells own k x z b c v (Raise l t) = Unit
-Tells own k x z b c v (Wake l t) = Unit
-Tells own k x z b c v Gate = doorOf (own .side) v ≡ z
-Tells own k x z b c v (Spin n) = roomOf (own .side) (capacity (own .power)) c v ≡ asRoom k
-Tells own k x z b c v Epoch = v ≡ b
-Tells own k x z b c v (Again e) = roomOf (own .side) (capacity (own .power)) c v ≡ asRoom k
-Tells own k x z b c v (GateAgain e) = doorOf (own .side) v ≡ z
-Tells own k x z b c v (Wait e) = v ≡ b
-Tells own k x z b c v Asleep = Unit
-Tells own k x z b c v (LastLook q) = roomOf (own .side) (capacity (own .power)) c v ≡ asRoom k
-Tells own k x z b c v CloseSet = Unit
-Tells own k x z b c v CloseRaise = Unit
-Tells own k x z b c v CloseWake = Unit
-Tells own k x z b c v (ShutSet q) = Unit
-Tells own k x z b c v (ShutRaiseNe q) = Unit
-Tells own k x z b c v (ShutWakeNe q) = Unit
-Tells own k x z b c v (ShutRaiseNf q f) = Unit
-Tells own k x z b c v (ShutWakeNf q f) = Unit
+abbrev pub Tells : (own : Own) → Sight → (counter value : ℕ) → Step → Type 0
+Tells own g c v Rest = Unit
+Tells own g c v Look = roomOf (own .side) (capacity (own .power)) c v ≡ asRoom (g .room)
+Tells own g c v Copy = Unit
+Tells own g c v (Publish l t) = Unit
+Tells own g c v (Check l t) = wasBlocked (own .side) (capacity (own .power)) c v ≡ eqb (g .theirs) 1
+Tells own g c v (Raise l t) = Unit
+Tells own g c v (Wake l t) = Unit
+Tells own g c v Gate = doorOf (own .side) v ≡ g .door
+Tells own g c v (Spin n) = roomOf (own .side) (capacity (own .power)) c v ≡ asRoom (g .room)
+Tells own g c v Epoch = v ≡ g .bell
+Tells own g c v (Again e) = roomOf (own .side) (capacity (own .power)) c v ≡ asRoom (g .room)
+Tells own g c v (GateAgain e) = doorOf (own .side) v ≡ g .door
+Tells own g c v (Wait e) = v ≡ g .bell
+Tells own g c v Asleep = Unit
+Tells own g c v (LastLook q) = roomOf (own .side) (capacity (own .power)) c v ≡ asRoom (g .room)
+Tells own g c v CloseSet = Unit
+Tells own g c v CloseRaise = Unit
+Tells own g c v CloseWake = Unit
+Tells own g c v (ShutSet q) = Unit
+Tells own g c v (ShutRaiseNe q) = Unit
+Tells own g c v (ShutWakeNe q) = Unit
+Tells own g c v (ShutRaiseNf q f) = Unit
+Tells own g c v (ShutWakeNf q f) = Unit
 
-pub leads : (own : Own) (k x : ℕ) (z : Door) (b c : ℕ) (m : Bool) (l v f : ℕ) (s : Step) → Tells own k x z b c v s
-    → Leads k x z m (rings (own .side) (own .notfull)) b (own .spins) s (stepAfter (moveAt s own c m l v f) s)
+-- what stands around a turn of a party with that copy of sizes and options
+abbrev pub around-it : Own → (room theirs : ℕ) → Door → (blocking : Bool) → (bell : ℕ) → Sight
+around-it own k x z m b = record { side = own .side; room = k; theirs = x; door = z; blocking = m; rings = rings (own .side) (own .notfull); bell = b; spins = own .spins }
+
+pub leads : (own : Own) (k x : ℕ) (z : Door) (b c : ℕ) (m : Bool) (l v f : ℕ) (s : Step) → Tells own (around-it own k x z m b) c v s
+    → Leads (around-it own k x z m b) s (stepAfter (moveAt s own c m l v f) s)
 unfolding lookMove copyMove publishMove checkMove wakeMove gateMove spinMove againMove waitMove lastMove closeMove shutMove
 leads own k x z b c m l v f Rest h = idles
-leads own k x z b c m l v f Look h = rw h (look-leads k x z m (rings (own .side) (own .notfull)) b (own .spins) (own .side) k refl m refl)
-leads own k x z b c m l v f Copy h = copy-leads k x z m (rings (own .side) (own .notfull)) b (own .spins) (own .side) (fitOf (headOf v) (payloadCapacity (own .slot)) l) (headOf v .length) (headOf v .tag)
-leads own k x z b c m l v f (Publish n t) h = publish-leads k x z m (rings (own .side) (own .notfull)) b (own .spins) n t (rings (own .side) (own .notfull)) refl
-leads own k x z b c m l v f (Check n t) h = rw h (check-leads k x z m (rings (own .side) (own .notfull)) b (own .spins) n t (eqb x 1) refl)
+leads own k x z b c m l v f Look h = rw h (look-leads (around-it own k x z m b) (own .side) k refl m refl)
+leads own k x z b c m l v f Copy h = copy-leads (around-it own k x z m b) (own .side) (fitOf (headOf v) (payloadCapacity (own .slot)) l) (headOf v .length) (headOf v .tag)
+leads own k x z b c m l v f (Publish n t) h = publish-leads (around-it own k x z m b) n t (rings (own .side) (own .notfull)) refl
+leads own k x z b c m l v f (Check n t) h = rw h (check-leads (around-it own k x z m b) n t (eqb x 1) refl)
 leads own k x z b c m l v f (Raise n t) h = raises
 leads own k x z b c m l v f (Wake n t) h = wakes
-leads own k x z b c m l v f Gate h = rw h (gate-leads k x z m (rings (own .side) (own .notfull)) b (own .spins) (own .side) z refl)
-leads own k x z b c m l v f (Spin n) h = rw h (spin-leads k x z m (rings (own .side) (own .notfull)) b (own .spins) n k refl)
+leads own k x z b c m l v f Gate h = rw h (gate-leads (around-it own k x z m b) (own .side) refl z refl)
+leads own k x z b c m l v f (Spin n) h = rw h (spin-leads (around-it own k x z m b) n k refl)
 leads own k x z b c m l v f Epoch h = rw h reads
-leads own k x z b c m l v f (Again e) h = rw h (again-leads k x z m (rings (own .side) (own .notfull)) b (own .spins) e k refl)
-leads own k x z b c m l v f (GateAgain e) h = rw h (gate-again-leads k x z m (rings (own .side) (own .notfull)) b (own .spins) (own .side) e z refl)
+leads own k x z b c m l v f (Again e) h = rw h (again-leads (around-it own k x z m b) e k refl)
+leads own k x z b c m l v f (GateAgain e) h = rw h (gate-again-leads (around-it own k x z m b) (own .side) refl e z refl)
 leads own k x z b c m l v f (Wait e) h =
-    wait-leads k x z m (rings (own .side) (own .notfull)) b (own .spins) e (waitOp (sleepBell (own .side))) f (napOf f (eqb v e)) (λ q. sym h ∙ eqb-true v e (nap-sleeps f (eqb v e) q))
+    wait-leads (around-it own k x z m b) e (waitOp (sleepBell (own .side))) f (napOf f (eqb v e)) (λ q. sym h ∙ eqb-true v e (nap-sleeps f (eqb v e) q))
 leads own k x z b c m l v f Asleep h = dreams
-leads own k x z b c m l v f (LastLook q) h = rw h (last-leads k x z m (rings (own .side) (own .notfull)) b (own .spins) q k refl)
-leads own k x z b c m l v f CloseSet h = close-leads k x z m (rings (own .side) (own .notfull)) b (own .spins) (rings (own .side) (own .notfull)) refl
+leads own k x z b c m l v f (LastLook q) h = rw h (last-leads (around-it own k x z m b) q k refl)
+leads own k x z b c m l v f CloseSet h = close-leads (around-it own k x z m b) (rings (own .side) (own .notfull)) refl
 leads own k x z b c m l v f CloseRaise h = close-raises
 leads own k x z b c m l v f CloseWake h = close-wakes
 leads own k x z b c m l v f (ShutSet q) h = shuts

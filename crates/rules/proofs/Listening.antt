@@ -156,7 +156,7 @@ module _ (P S v : ℕ) (on : Bool) (power-ok : powerOk P ≡ true) (slot-ok : sl
   pub ready-own : (h : Bool) → ((e : ℕ) → s ≡ Wait e → rungOf side t < 2 ^ 32) → ReadyAt P S v on h side (other side) w → ReadyAt P S v on h side (other side) after
   ready-own true timely y =
       rw (mover-is, waiter-is, duty-kept)
-      (own _ _ _ _ _ _ _ s next (leads-here P S v on power-ok slot-ok w real side payload lent fault g) (rungOf side t) (duty (other side) (q .step))
+      (own _ s next (leads-here P S v on power-ok slot-ok w real side payload lent fault g) (rungOf side t) (duty (other side) (q .step))
       (λ e at b. unrung e (leAt 4 r (bellAt (sleepBell side))) (rungOf side t) (timely e at) (subst (λ (u : Step). Since (phase u) (leAt 4 r (bellAt (sleepBell side))) (rungOf side t)) at (real .sides side .since)) b)
       (rungOf side (after .trace)) (roomIn P S v on side (after .trace)) (stopAt side (leAt 4 (after .region) flagsAt))
       (λ u. (
@@ -166,7 +166,7 @@ module _ (P S v : ℕ) (on : Bool) (power-ok : powerOk P ≡ true) (slot-ok : sl
       ))
       (rw (stop-barred side (leAt 4 r flagsAt)) y))
   ready-own false timely y =
-      rw mover-is (tries _ _ _ _ _ _ _ s next (leads-here P S v on power-ok slot-ok w real side payload lent fault g) y)
+      rw mover-is (tries _ _ refl s next (leads-here P S v on power-ok slot-ok w real side payload lent fault g) y)
 
   -- a turn of the other's: here `side` moves, and the other waits
   pub ready-other : (h : Bool) → rings side on ≡ h → (wakesAt side s ≡ true → q .step ≡ Asleep → errorOf fault ≡ 0) → ReadyAt P S v on h (other side) side w → ReadyAt P S v on h (other side) side after
@@ -174,7 +174,7 @@ module _ (P S v : ℕ) (on : Bool) (power-ok : powerOk P ≡ true) (slot-ok : sl
       let e : phase (woken .step) ≡ risen (wakesAt side s && not (ltb 0 (errorOf fault))) (phase (q .step)) =
       ap (λ (x : Access). phase (wakened (other side) q (wokeOf x (errorOf fault)) .step)) (access-is P S v on power-ok slot-ok w real side payload lent fault g) ∙ woken-phase side q (p .counter) (errorOf fault) s in
       rw (mover-is, waiter-is, trace-is, e, rung-other p payload buffer t side s, room-other-is p payload buffer t P S v on r (real .queue) side s (real .sides side .room))
-      (theirs side _ _ _ _ _ _ _ s next (leads-here P S v on power-ok slot-ok w real side payload lent fault g) rung (not (ltb 0 (errorOf fault))) (phase (q .step)) (rungOf (other side) t)
+      (theirs side _ s next (leads-here P S v on power-ok slot-ok w real side payload lent fault g) rung (not (ltb 0 (errorOf fault))) (phase (q .step)) (rungOf (other side) t)
       (stopAt (other side) (leAt 4 r flagsAt)) (stopAt (other side) (leAt 4 (after .region) flagsAt))
       (λ u. ap (stopAt (other side)) (flags-same u))
       (λ u z. no-error (ltb 0 (errorOf fault)) (errorOf fault) refl (lands u (asleep-step (q .step) z)))
@@ -198,7 +198,7 @@ module _ (P S v : ℕ) (on : Bool) (power-ok : powerOk P ≡ true) (slot-ok : sl
   pub rung-mine : (more : ℕ) → RungAt P S v on more side (other side) w → RungAt P S v on more side (other side) after
   rung-mine more y =
       rw (mover-is, waiter-is, owing-kept)
-      (holds-on (other side) _ _ _ _ _ _ _ s next (leads-here P S v on power-ok slot-ok w real side payload lent fault g) (q .step) (rungOf side t)
+      (holds-on (other side) _ s next (leads-here P S v on power-ok slot-ok w real side payload lent fault g) (q .step) (rungOf side t)
       (rungOf side (after .trace)) (roomIn P S v on side (after .trace)) more epoch-zero
       (λ u. (
         ap (rungOf side) trace-is ∙ rung-own p payload buffer t side s u,
@@ -211,5 +211,5 @@ module _ (P S v : ℕ) (on : Bool) (power-ok : powerOk P ≡ true) (slot-ok : sl
       rw (mover-is, waiter-is, trace-is, rung-other p payload buffer t side s, room-other-is p payload buffer t P S v on r (real .queue) side s (real .sides side .room))
       (roused-elim (roused (other side) q (wokeOf (nextSpec p) (errorOf fault)))
       (λ u. holdsEpoch u ≡ true → rungBy side s (rungOf (other side) t) + owing side next (roomBy s (roomIn P S v on (other side) t)) ≤ 2 + more)
-      (λ h. omega (arith, pays side _ _ _ _ _ _ _ s next (leads-here P S v on power-ok slot-ok w real side payload lent fault g) (rungOf (other side) t), y h))
+      (λ h. omega (arith, pays side _ s next (leads-here P S v on power-ok slot-ok w real side payload lent fault g) (rungOf (other side) t), y h))
       (λ e h. absurd (let z : _≡_ {A = ℕ} 0 1 = cc in omega arith)))

@@ -6,7 +6,7 @@ use native.Mathlib.Omega.{arith}
 use Rattle.types.specs.declared.Door.{Door}
 use Rattle.types.specs.declared.Step.{Step}
 use Rattle.types.specs.declared.Step.the-variants.{Rest, Look, Copy, Publish, Check, Raise, Wake, Gate, Spin, Epoch, Again, GateAgain, Wait, Asleep, LastLook, CloseSet, CloseRaise, CloseWake, ShutSet, ShutRaiseNe, ShutWakeNe, ShutRaiseNf, ShutWakeNf}
-use Rattle.rules.proofs.Leads.{Onward, straight, around, barred, Leads, idles, finds, blocks, gives-up, copies, spills, tells, stores, owes, passes, raises, wakes, enters, stops, finds-spin, spins, reads, finds-again, stays, enters-again, stops-again, returns, ends, dreams, glances, glances-again, times-out, finds-last, finds-none, closes, closes-alone, close-raises, close-wakes, shuts, shut-raises, shut-wakes, shut-raises-again, shut-wakes-again, sleeps as falls-asleep}
+use Rattle.rules.proofs.Leads.{Sight, Onward, straight, around, barred, Leads, idles, finds, blocks, gives-up, copies, spills, tells, stores, owes, passes, raises, wakes, enters, stops, finds-spin, spins, reads, finds-again, stays, enters-again, stops-again, returns, ends, dreams, glances, glances-again, times-out, finds-last, finds-none, closes, closes-alone, close-raises, close-wakes, shuts, shut-raises, shut-wakes, shut-raises-again, shut-wakes-again, sleeps as falls-asleep}
 use Rattle.rules.proofs.Does.{less, under}
 use Rattle.rules.proofs.Costs.{ownRoom}
 
@@ -95,43 +95,43 @@ spun n zero t e (around m) = under (m + 5) (suc m + 5) (omega arith)
 spun n (suc k) t e o = absurd (omega arith)
 
 -- with a flag up, a turn takes one off them, but for a sleeper's
-pub nearer : (k x : ℕ) (z : Door) (m r : Bool) (b a : ℕ) (s next : Step) → Leads k x z m r b a s next → barred z ≡ true → (s ≡ Asleep → ⊥) → toRest next (ownRoom s k) ≤ less (toRest s k)
-nearer k x z m r b a s next idles y d = omega arith
-nearer k x z m r b a s next (finds h) y d = room-found k 3 h
-nearer k x z m r b a s next (blocks h q) y d = room-down k 2 7 3 6 (λ e. omega arith) (λ e. omega arith)
-nearer k x z m r b a s next (gives-up h q) y d = omega arith
-nearer k x z m r b a s next copies y d = omega arith
-nearer k x z m r b a s next spills y d = omega arith
-nearer k x z m r b a s next (tells h) y d = omega arith
-nearer k x z m r b a s next (stores h) y d = omega arith
-nearer k x z m r b a s next (owes h) y d = omega arith
-nearer k x z m r b a s next (passes h) y d = omega arith
-nearer k x z m r b a s next raises y d = omega arith
-nearer k x z m r b a s next wakes y d = omega arith
-nearer k x z m r b a s next (enters h o) y d = absurd (let q = sym y ∙ ap barred h in let u : _≡_ {A = ℕ} 0 1 = cc in omega arith)
-nearer k x z m r b a s next (finds-spin h) y d = room-found k _ h
-nearer k x z m r b a s next (spins h o) y d = spun _ k next h o
-nearer k x z m r b a s next (stops h) y d = omega arith
-nearer k x z m r b a s next reads y d = room-down k 3 6 4 7 (λ e. omega arith) (λ e. omega arith)
-nearer k x z m r b a s next (finds-again h) y d = room-found k 3 h
-nearer k x z m r b a s next (stays h) y d = room-down k 2 7 3 6 (λ e. omega arith) (λ e. omega arith)
-nearer k x z m r b a s next (enters-again h) y d = absurd (let q = sym y ∙ ap barred h in let u : _≡_ {A = ℕ} 0 1 = cc in omega arith)
-nearer k x z m r b a s next (stops-again h) y d = omega arith
-nearer k x z m r b a s next (falls-asleep h) y d = omega arith
-nearer k x z m r b a s next returns y d = room-le k 3 6 6 (omega arith) (omega arith)
-nearer k x z m r b a s next ends y d = omega arith
-nearer k x z m r b a s next dreams y d = absurd (d refl)
-nearer k x z m r b a s next (glances h) y d = room-down k 1 6 2 7 (λ e. omega arith) (λ e. omega arith)
-nearer k x z m r b a s next (glances-again h) y d = room-down k 1 6 2 7 (λ e. omega arith) (λ e. omega arith)
-nearer k x z m r b a s next times-out y d = room-le k 1 6 6 (omega arith) (omega arith)
-nearer k x z m r b a s next (finds-last h) y d = room-found k 1 h
-nearer k x z m r b a s next (finds-none h) y d = omega arith
-nearer k x z m r b a s next (closes h) y d = omega arith
-nearer k x z m r b a s next (closes-alone h) y d = omega arith
-nearer k x z m r b a s next close-raises y d = omega arith
-nearer k x z m r b a s next close-wakes y d = omega arith
-nearer k x z m r b a s next shuts y d = omega arith
-nearer k x z m r b a s next shut-raises y d = omega arith
-nearer k x z m r b a s next shut-wakes y d = omega arith
-nearer k x z m r b a s next shut-raises-again y d = omega arith
-nearer k x z m r b a s next shut-wakes-again y d = omega arith
+pub nearer : (g : Sight) (s next : Step) → Leads g s next → barred (g .door) ≡ true → (s ≡ Asleep → ⊥) → toRest next (ownRoom s (g .room)) ≤ less (toRest s (g .room))
+nearer g s next idles y d = omega arith
+nearer g s next (finds h) y d = room-found (g .room) 3 h
+nearer g s next (blocks h q) y d = room-down (g .room) 2 7 3 6 (λ e. omega arith) (λ e. omega arith)
+nearer g s next (gives-up h q) y d = omega arith
+nearer g s next copies y d = omega arith
+nearer g s next spills y d = omega arith
+nearer g s next (tells h) y d = omega arith
+nearer g s next (stores h) y d = omega arith
+nearer g s next (owes h) y d = omega arith
+nearer g s next (passes h) y d = omega arith
+nearer g s next raises y d = omega arith
+nearer g s next wakes y d = omega arith
+nearer g s next (enters h o) y d = absurd (let q = sym y ∙ ap barred h in let u : _≡_ {A = ℕ} 0 1 = cc in omega arith)
+nearer g s next (finds-spin h) y d = room-found (g .room) _ h
+nearer g s next (spins h o) y d = spun _ (g .room) next h o
+nearer g s next (stops h) y d = omega arith
+nearer g s next reads y d = room-down (g .room) 3 6 4 7 (λ e. omega arith) (λ e. omega arith)
+nearer g s next (finds-again h) y d = room-found (g .room) 3 h
+nearer g s next (stays h) y d = room-down (g .room) 2 7 3 6 (λ e. omega arith) (λ e. omega arith)
+nearer g s next (enters-again h) y d = absurd (let q = sym y ∙ ap barred h in let u : _≡_ {A = ℕ} 0 1 = cc in omega arith)
+nearer g s next (stops-again h) y d = omega arith
+nearer g s next (falls-asleep h) y d = omega arith
+nearer g s next returns y d = room-le (g .room) 3 6 6 (omega arith) (omega arith)
+nearer g s next ends y d = omega arith
+nearer g s next dreams y d = absurd (d refl)
+nearer g s next (glances u h) y d = room-down (g .room) 1 6 2 7 (λ e. omega arith) (λ e. omega arith)
+nearer g s next (glances-again u h) y d = room-down (g .room) 1 6 2 7 (λ e. omega arith) (λ e. omega arith)
+nearer g s next times-out y d = room-le (g .room) 1 6 6 (omega arith) (omega arith)
+nearer g s next (finds-last h) y d = room-found (g .room) 1 h
+nearer g s next (finds-none h) y d = omega arith
+nearer g s next (closes h) y d = omega arith
+nearer g s next (closes-alone h) y d = omega arith
+nearer g s next close-raises y d = omega arith
+nearer g s next close-wakes y d = omega arith
+nearer g s next shuts y d = omega arith
+nearer g s next shut-raises y d = omega arith
+nearer g s next shut-wakes y d = omega arith
+nearer g s next shut-raises-again y d = omega arith
+nearer g s next shut-wakes-again y d = omega arith

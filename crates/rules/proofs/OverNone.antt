@@ -32,7 +32,7 @@ use Rattle.rules.specs.Claims.{room, Fresh, reached, ClosedOverNone, Tim
 use Rattle.rules.proofs.Answered.{given-first}
 use Rattle.rules.proofs.Rooms.{asRoom}
 use Rattle.rules.proofs.Leads.{Tells}
-use Rattle.rules.proofs.RealTurn.{own-is, tells-here}
+use Rattle.rules.proofs.RealTurn.{sightAt, own-is, tells-here}
 use Rattle.rules.proofs.RealRun.{power-fits, slot-fits, real-reached}
 use Rattle.rules.proofs.Causes.{room-is}
 use Rattle.rules.proofs.Asks.{run-parts, typed-parts}
@@ -102,7 +102,7 @@ module _ (r : List ℕ) (P S : ℕ) (on : Bool) (v : ℕ) (fresh : Fresh r P S o
       let p = partyIn w side in
       let k = roomIn P S v on side (w .trace) in
       let seen : roomOf (p .own .side) (capacity (p .own .power)) (p .counter) (valueOf (w .region) (p .own) (nextSpec p)) ≡ asRoom k =
-      subst (λ (s : Step). Tells (p .own) k (roomIn P S v on (other side) (w .trace)) (doorOf side (leAt 4 (w .region) flagsAt)) (leAt 4 (w .region) (bellAt (sleepBell side))) (p .counter) (valueOf (w .region) (p .own) (nextSpec p)) s) (h .last)
+      subst (λ (s : Step). Tells (p .own) (sightAt P S v on side (p .own) (w .region) (w .trace) (p .blocking)) (p .counter) (valueOf (w .region) (p .own) (nextSpec p)) s) (h .last)
       (tells-here P S v on power-ok slot-ok w (real-reached r P S on v fresh hs t) side payload lent fault (h .taken)) in
       room-is r P S on v fresh side hs t ∙ none-seen k (sym seen ∙ h .blocked)
 

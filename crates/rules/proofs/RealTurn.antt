@@ -39,7 +39,7 @@ use Rattle.rules.specs.Run.{Note, Trace, World, partyIn, takes, traced, 
 use Rattle.rules.specs.Phase.{copying, looking, phase}
 use Rattle.rules.proofs.Views.{is-copy}
 use Rattle.rules.proofs.Rooms.{asRoom, sender-sees, recorder-sees, sender-checks, recorder-checks}
-use Rattle.rules.proofs.Leads.{Leads, Tells, leads}
+use Rattle.rules.proofs.Leads.{Sight, around-it, Leads, Tells, leads}
 use Rattle.rules.proofs.Does.{Does, does}
 use Rattle.rules.proofs.After.{bell-after, bell-by-small}
 use Rattle.rules.proofs.Kept.{header-in, fixed-kept, counts-own, counts-other, word-own, word-other}
@@ -57,6 +57,10 @@ both-sides Sender F x y Recorder = y
 both-sides Recorder F x y Sender = y
 both-sides Recorder F x y Recorder = x
 
+-- what stands around a side's turn, in the region's bytes and in the trace
+abbrev pub sightAt : (P S v : ℕ) (on : Bool) → Side → Own → List ℕ → Trace → (blocking : Bool) → Sight
+sightAt P S v on side own r t blocking = around-it own (roomIn P S v on side t) (roomIn P S v on (other side) t) (doorOf side (leAt 4 r flagsAt)) blocking (leAt 4 r (bellAt (sleepBell side)))
+
 module _ (P S v : ℕ) (on : Bool) (power-ok : powerOk P ≡ true) (slot-ok : slotOk S ≡ true) where
   -- what the counters, the flags and the bell tell a side
   module _ (side : Side) (r : List ℕ) (t : Trace) (queue : Queue P S v on r t) (words : (side : Side) → leAt 8 r (counterAt side) ≡ plus 64 v (countOf side t)) where
@@ -71,32 +75,32 @@ module _ (P S v : ℕ) (on : Bool) (power-ok : powerOk P ≡ true) (slot-ok : sl
     checks Sender = sender-checks (capacity P) v (length (t .sent)) (length (t .delivered)) (queue .below) (queue .above) small
     checks Recorder = recorder-checks (capacity P) v (length (t .sent)) (length (t .delivered)) (queue .below) (queue .above) small
 
-    pub tells-at : (own : Own) (c val : ℕ) → own ≡ sizes P S v on side (own .spins) → c ≡ plus 64 v (countOf side t) → (s : Step) → val ≡ valueOf r own (nextAt s side c)
-        → Tells own (roomIn P S v on side t) (roomIn P S v on (other side) t) (doorOf side (leAt 4 r flagsAt)) (leAt 4 r (bellAt (sleepBell side))) c val s
+    pub tells-at : (own : Own) (c val : ℕ) → own ≡ sizes P S v on side (own .spins) → c ≡ plus 64 v (countOf side t) → (m : Bool) (s : Step) → val ≡ valueOf r own (nextAt s side c)
+        → Tells own (sightAt P S v on side own r t m) c val s
     unfolding valueOf
-    tells-at own c val o h Rest e = tt
-    tells-at own c val o h Look e = rw (o, h, e ∙ words (other side)) (sees side)
-    tells-at own c val o h Copy e = tt
-    tells-at own c val o h (Publish l g) e = tt
-    tells-at own c val o h (Check l g) e = rw (o, h, e ∙ words (other side)) (checks side)
-    tells-at own c val o h (Raise l g) e = tt
-    tells-at own c val o h (Wake l g) e = tt
-    tells-at own c val o h Gate e = rw (o, e)
-    tells-at own c val o h (Spin n) e = rw (o, h, e ∙ words (other side)) (sees side)
-    tells-at own c val o h Epoch e = e
-    tells-at own c val o h (Again n) e = rw (o, h, e ∙ words (other side)) (sees side)
-    tells-at own c val o h (GateAgain n) e = rw (o, e)
-    tells-at own c val o h (Wait n) e = e
-    tells-at own c val o h Asleep e = tt
-    tells-at own c val o h (LastLook q) e = rw (o, h, e ∙ words (other side)) (sees side)
-    tells-at own c val o h CloseSet e = tt
-    tells-at own c val o h CloseRaise e = tt
-    tells-at own c val o h CloseWake e = tt
-    tells-at own c val o h (ShutSet q) e = tt
-    tells-at own c val o h (ShutRaiseNe q) e = tt
-    tells-at own c val o h (ShutWakeNe q) e = tt
-    tells-at own c val o h (ShutRaiseNf q n) e = tt
-    tells-at own c val o h (ShutWakeNf q n) e = tt
+    tells-at own c val o h m Rest e = tt
+    tells-at own c val o h m Look e = rw (o, h, e ∙ words (other side)) (sees side)
+    tells-at own c val o h m Copy e = tt
+    tells-at own c val o h m (Publish l g) e = tt
+    tells-at own c val o h m (Check l g) e = rw (o, h, e ∙ words (other side)) (checks side)
+    tells-at own c val o h m (Raise l g) e = tt
+    tells-at own c val o h m (Wake l g) e = tt
+    tells-at own c val o h m Gate e = rw (o, e)
+    tells-at own c val o h m (Spin n) e = rw (o, h, e ∙ words (other side)) (sees side)
+    tells-at own c val o h m Epoch e = e
+    tells-at own c val o h m (Again n) e = rw (o, h, e ∙ words (other side)) (sees side)
+    tells-at own c val o h m (GateAgain n) e = rw (o, e)
+    tells-at own c val o h m (Wait n) e = e
+    tells-at own c val o h m Asleep e = tt
+    tells-at own c val o h m (LastLook q) e = rw (o, h, e ∙ words (other side)) (sees side)
+    tells-at own c val o h m CloseSet e = tt
+    tells-at own c val o h m CloseRaise e = tt
+    tells-at own c val o h m CloseWake e = tt
+    tells-at own c val o h m (ShutSet q) e = tt
+    tells-at own c val o h m (ShutRaiseNe q) e = tt
+    tells-at own c val o h m (ShutWakeNe q) e = tt
+    tells-at own c val o h m (ShutRaiseNf q n) e = tt
+    tells-at own c val o h m (ShutWakeNf q n) e = tt
 
   module _ (w : World) (real : Real P S v on w) (side : Side) (payload lent : List ℕ) (fault : Fault) (g : takes w side payload lent fault ≡ true) where
     abbrev r : List ℕ
@@ -134,14 +138,17 @@ module _ (P S v : ℕ) (on : Bool) (power-ok : powerOk P ≡ true) (slot-ok : sl
     words s = real .sides s .word
 
     -- what its value tells
-    pub tells-here : Tells (p .own) (roomIn P S v on side t) (roomIn P S v on (other side) t) (doorOf side (leAt 4 r flagsAt)) (leAt 4 r (bellAt (sleepBell side))) (p .counter) value (p .step)
-    tells-here = tells-at side r t (real .queue) words (p .own) (p .counter) value own-is counter-is (p .step) (ap (valueOf r (p .own)) access-is)
+    pub tells-here : Tells (p .own) (sightAt P S v on side (p .own) r t (p .blocking)) (p .counter) value (p .step)
+    tells-here = tells-at side r t (real .queue) words (p .own) (p .counter) value own-is counter-is (p .blocking) (p .step) (ap (valueOf r (p .own)) access-is)
 
     -- where the turn leads
-    pub leads-here : Leads (roomIn P S v on side t) (roomIn P S v on (other side) t) (doorOf side (leAt 4 r flagsAt)) (p .blocking) (rings side on) (leAt 4 r (bellAt (sleepBell side))) (p .own .spins) (p .step) next-step
+    abbrev pub sight : Sight
+    sight = sightAt P S v on side (sizes P S v on side (p .own .spins)) r t (p .blocking)
+
+    pub leads-here : Leads sight (p .step) next-step
     unfolding moveOf
     leads-here =
-        subst (λ (o : Own). Leads (roomIn P S v on side t) (roomIn P S v on (other side) t) (doorOf side (leAt 4 r flagsAt)) (p .blocking) (rings (o .side) (o .notfull)) (leAt 4 r (bellAt (sleepBell side))) (p .own .spins) (p .step) next-step)
+        subst (λ (o : Own). Leads (sightAt P S v on side o r t (p .blocking)) (p .step) next-step)
         own-is
         (leads (p .own) (roomIn P S v on side t) (roomIn P S v on (other side) t) (doorOf side (leAt 4 r flagsAt)) (leAt 4 r (bellAt (sleepBell side))) (p .counter) (p .blocking) (p .length) value (errorOf fault) (p .step) tells-here)
 
@@ -200,7 +207,7 @@ module _ (P S v : ℕ) (on : Bool) (power-ok : powerOk P ≡ true) (slot-ok : sl
       where
         by : (p .step ≡ Copy) ⊎ (p .step ≡ Copy → ⊥) → InHand P S v on side (phase next-step) left told
         by (inr n) =
-            hand-own P S v on power-ok slot-ok r p payload (real .fixed) t buffer (real .queue) side _ _ _ _ _ _ _ (p .step) next-step refl n leads-here (mine .hand)
+            hand-own P S v on power-ok slot-ok r p payload (real .fixed) t buffer (real .queue) side sight (p .step) next-step refl n leads-here (mine .hand)
         by (inl q) =
             subst (λ (s : Step). InHand P S v on side (phase (stepAfter (moveAt s (p .own) (p .counter) (p .blocking) (p .length) value (errorOf fault)) s)) (leavesOf r (p .own) (nextAt s side (p .counter)) (p .tag) payload)
             (traced (nextAt s side (p .counter)) p payload (bufferOf r (p .own) (nextAt s side (p .counter)) (p .length) lent) t))
@@ -219,9 +226,9 @@ module _ (P S v : ℕ) (on : Bool) (power-ok : powerOk P ≡ true) (slot-ok : sl
               word-own P S v on r p payload (real .fixed) t buffer side (p .step) a d counter-is (mine .word)
               ∙ ap (counterAfter (stanceOf (p .step))) counter-is
               ∙ counts-own P S v on r p payload (real .fixed) t buffer side (p .step) a d;
-          seat = seated-own P S v on r p payload (real .fixed) t buffer side _ _ _ _ _ (p .step) next-step a refl (attached-here w side payload lent fault g) d leads-here (mine .seat);
-          since = since-own P S v on r p payload (real .fixed) t buffer side _ _ _ _ _ _ (p .step) next-step leads-here (mine .since);
-          room = room-own P S v on power-ok slot-ok r p payload (real .fixed) t buffer (real .queue) side _ _ _ _ _ _ (p .step) next-step leads-here (mine .room);
+          seat = seated-own P S v on r p payload (real .fixed) t buffer side sight refl refl (p .step) next-step a refl (attached-here w side payload lent fault g) d leads-here (mine .seat);
+          since = since-own P S v on r p payload (real .fixed) t buffer side sight refl (p .step) next-step leads-here (mine .since);
+          room = room-own P S v on power-ok slot-ok r p payload (real .fixed) t buffer (real .queue) side sight refl (p .step) next-step leads-here (mine .room);
           hand = hand-after;
           tag-small = mine .tag-small;
           bell-small = bell-left side (mine .bell-small);

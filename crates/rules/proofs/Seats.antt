@@ -36,7 +36,7 @@ use Rattle.rules.specs.Phase.{Phase, resting, looking, copying, publishi
 use Rattle.rules.proofs.Views.{sleeping-step}
 use Rattle.rules.proofs.After.{bellBy, bell-after}
 use Rattle.rules.proofs.Does.{Does, nothing, looks, flags, reads as epoch, writes, takes, stores as store, raises as ring, closes as close, shuts as shut, waits as wait, wakes as wake}
-use Rattle.rules.proofs.Leads.{asks, Leads, idles, finds, blocks, gives-up, copies, spills, tells, stores, owes, passes, raises, wakes, enters, stops, finds-spin, spins, reads, finds-again, stays, enters-again, stops-again, sleeps, returns, ends, dreams, glances, glances-again, times-out, finds-last, finds-none, closes, closes-alone, close-raises, close-wakes, shuts, shut-raises, shut-wakes, shut-raises-again, shut-wakes-again}
+use Rattle.rules.proofs.Leads.{Sight, asks, Leads, idles, finds, blocks, gives-up, copies, spills, tells, stores, owes, passes, raises, wakes, enters, stops, finds-spin, spins, reads, finds-again, stays, enters-again, stops-again, sleeps, returns, ends, dreams, glances, glances-again, times-out, finds-last, finds-none, closes, closes-alone, close-raises, close-wakes, shuts, shut-raises, shut-wakes, shut-raises-again, shut-wakes-again}
 use Rattle.rules.proofs.Parting.{parts-on, glances-left, spins-on, closed-by}
 use Rattle.rules.proofs.Kept.{header-in, flag-up, flags-are, attach-bit, close-bit-own, close-bit-other, counts-own, counts-other}
 use Rattle.rules.proofs.Real.{parts, Since, Seated, Fixed}
@@ -122,18 +122,18 @@ module _ (P S v : ℕ) (on : Bool) (r : List ℕ) (p : Party) (payload : List �
   abbrev told : Access → Trace
   told a = traced a p payload buffer t
 
-  pub seated-own : (side : Side) (k x : ℕ) (m rg : Bool) (b : ℕ) (s next : Step) (a : Access) → p .step ≡ s → p .own .attached ≡ true → Does side (p .counter) s a
-      → Leads k x (doorOf side (leAt 4 r flagsAt)) m rg b (p .own .spins) s next → Seated P S v on side p t (leAt 4 r flagsAt) → Seated P S v on side (moved p s next) (told a) (leAt 4 (left a) flagsAt)
-  seated-own side k x m rg b s next a at here d leads h =
+  pub seated-own : (side : Side) (g : Sight) → g .door ≡ doorOf side (leAt 4 r flagsAt) → g .spins ≡ p .own .spins → (s next : Step) (a : Access) → p .step ≡ s → p .own .attached ≡ true → Does side (p .counter) s a
+      → Leads g s next → Seated P S v on side p t (leAt 4 r flagsAt) → Seated P S v on side (moved p s next) (told a) (leAt 4 (left a) flagsAt)
+  seated-own side g door count s next a at here d leads h =
       rw (flags-are P S v on r p payload fixed a) record {
         closed-bit = close-bit-own side (p .counter) s a (leAt 4 r flagsAt) (fixed .small) d ∙ ap (closedAfter (stanceOf s)) (h .closed-bit);
         attached-bit = attach-bit side side (p .counter) s a (leAt 4 r flagsAt) (fixed .small) d ∙ h .attached-bit;
         in-place = λ e. ((h .in-place e) .0, ap (counterAfter (stanceOf s)) ((h .in-place e) .1) ∙ counts-own P S v on r p payload fixed t buffer side s a d);
         empty = λ e. absurd (let z : _≡_ {A = ℕ} 0 1 = cc in omega arith);
-        over = λ e. parts-on k x (doorOf side (leAt 4 r flagsAt)) m rg b (p .own .spins) s next leads (⊎-elim (λ q. sym (ap (λ (u : Step). parts (phase u)) at) ∙ h .over (sym q ∙ e)) (ap (λ (u : Step). parts (phase u))) (closed-by side (p .counter) s a d (p .closed)));
+        over = λ e. parts-on g s next leads (⊎-elim (λ q. sym (ap (λ (u : Step). parts (phase u)) at) ∙ h .over (sym q ∙ e)) (ap (λ (u : Step). parts (phase u))) (closed-by side (p .counter) s a d (p .closed)));
         few = h .few;
-        spun = spins-on k x (doorOf side (leAt 4 r flagsAt)) m rg b (p .own .spins) s next leads (λ n q. h .spun n (at ∙ q));
-        heard = λ e. flag-up a (leAt 4 r flagsAt) (fixed .small) (closeMark (other side)) (left-bit side (leAt 4 r flagsAt) (glances-left k x (doorOf side (leAt 4 r flagsAt)) m rg b (p .own .spins) s next leads e));
+        spun = λ n. rw (sym count) (spins-on g s next leads (λ i q. rw count (h .spun i (at ∙ q))) n);
+        heard = λ e. flag-up a (leAt 4 r flagsAt) (fixed .small) (closeMark (other side)) (left-bit side (leAt 4 r flagsAt) (sym door ∙ glances-left g s next leads e));
       }
 
   pub seated-other : (side : Side) (s : Step) (a : Access) (q q′ : Party) → Roused q q′ → Does side (p .counter) s a
@@ -171,48 +171,48 @@ module _ (P S v : ℕ) (on : Bool) (r : List ℕ) (p : Party) (payload : List �
   rung-anew Sender = refl
   rung-anew Recorder = refl
 
-  pub since-own : (side : Side) (k x : ℕ) (z : Door) (m rg : Bool) (a : ℕ) (s next : Step) → Leads k x z m rg (leAt 4 r (bellAt (sleepBell side))) a s next
+  pub since-own : (side : Side) (g : Sight) → g .bell ≡ leAt 4 r (bellAt (sleepBell side)) → (s next : Step) → Leads g s next
       → Since (phase s) (leAt 4 r (bellAt (sleepBell side))) (rungOf side t)
       → Since (phase next) (leAt 4 (left (nextAt s side (p .counter))) (bellAt (sleepBell side))) (rungOf side (told (nextAt s side (p .counter))))
-  since-own side k x z m rg a s next idles y = tt
-  since-own side k x z m rg a s next (finds h) y = tt
-  since-own side k x z m rg a s next (blocks h q) y = tt
-  since-own side k x z m rg a s next (gives-up h q) y = tt
-  since-own side k x z m rg a s next copies y = tt
-  since-own side k x z m rg a s next spills y = tt
-  since-own side k x z m rg a s next (tells h) y = tt
-  since-own side k x z m rg a s next (stores h) y = tt
-  since-own side k x z m rg a s next (owes h) y = tt
-  since-own side k x z m rg a s next (passes h) y = tt
-  since-own side k x z m rg a s next raises y = tt
-  since-own side k x z m rg a s next wakes y = tt
-  since-own side k x z m rg a s next (enters h o) y = rw (asks _ _ o) tt
-  since-own side k x z m rg a s next (finds-spin h) y = tt
-  since-own side k x z m rg a s next (spins h o) y = rw (asks _ _ o) tt
-  since-own side k x z m rg a s next (stops h) y = tt
-  since-own side k x z m rg a s next reads y = rw (bell-own side (nextAt Epoch side (p .counter)) refl, rung-anew side) (epoch-read (leAt 4 r (bellAt (sleepBell side))))
-  since-own side k x z m rg a s next (finds-again h) y = tt
-  since-own side k x z m rg a s next (stays h) y = rw (bell-own side (nextAt s side (p .counter)) refl) y
-  since-own side k x z m rg a s next (enters-again h) y = rw (bell-own side (nextAt s side (p .counter)) refl) y
-  since-own side k x z m rg a s next (stops-again h) y = tt
-  since-own side k x z m rg a s next (sleeps h) y = tt
-  since-own side k x z m rg a s next returns y = tt
-  since-own side k x z m rg a s next ends y = tt
-  since-own side k x z m rg a s next dreams y = tt
-  since-own side k x z m rg a s next (glances h) y = tt
-  since-own side k x z m rg a s next (glances-again h) y = tt
-  since-own side k x z m rg a s next times-out y = tt
-  since-own side k x z m rg a s next (finds-last h) y = tt
-  since-own side k x z m rg a s next (finds-none h) y = tt
-  since-own side k x z m rg a s next (closes h) y = tt
-  since-own side k x z m rg a s next (closes-alone h) y = tt
-  since-own side k x z m rg a s next close-raises y = tt
-  since-own side k x z m rg a s next close-wakes y = tt
-  since-own side k x z m rg a s next shuts y = tt
-  since-own side k x z m rg a s next shut-raises y = tt
-  since-own side k x z m rg a s next shut-wakes y = tt
-  since-own side k x z m rg a s next shut-raises-again y = tt
-  since-own side k x z m rg a s next shut-wakes-again y = tt
+  since-own side g at s next idles y = tt
+  since-own side g at s next (finds h) y = tt
+  since-own side g at s next (blocks h q) y = tt
+  since-own side g at s next (gives-up h q) y = tt
+  since-own side g at s next copies y = tt
+  since-own side g at s next spills y = tt
+  since-own side g at s next (tells h) y = tt
+  since-own side g at s next (stores h) y = tt
+  since-own side g at s next (owes h) y = tt
+  since-own side g at s next (passes h) y = tt
+  since-own side g at s next raises y = tt
+  since-own side g at s next wakes y = tt
+  since-own side g at s next (enters h o) y = rw (asks _ _ o) tt
+  since-own side g at s next (finds-spin h) y = tt
+  since-own side g at s next (spins h o) y = rw (asks _ _ o) tt
+  since-own side g at s next (stops h) y = tt
+  since-own side g at s next reads y = rw (at, bell-own side (nextAt Epoch side (p .counter)) refl, rung-anew side) (epoch-read (leAt 4 r (bellAt (sleepBell side))))
+  since-own side g at s next (finds-again h) y = tt
+  since-own side g at s next (stays h) y = rw (bell-own side (nextAt s side (p .counter)) refl) y
+  since-own side g at s next (enters-again h) y = rw (bell-own side (nextAt s side (p .counter)) refl) y
+  since-own side g at s next (stops-again h) y = tt
+  since-own side g at s next (sleeps h) y = tt
+  since-own side g at s next returns y = tt
+  since-own side g at s next ends y = tt
+  since-own side g at s next dreams y = tt
+  since-own side g at s next (glances u h) y = tt
+  since-own side g at s next (glances-again u h) y = tt
+  since-own side g at s next times-out y = tt
+  since-own side g at s next (finds-last h) y = tt
+  since-own side g at s next (finds-none h) y = tt
+  since-own side g at s next (closes h) y = tt
+  since-own side g at s next (closes-alone h) y = tt
+  since-own side g at s next close-raises y = tt
+  since-own side g at s next close-wakes y = tt
+  since-own side g at s next shuts y = tt
+  since-own side g at s next shut-raises y = tt
+  since-own side g at s next shut-wakes y = tt
+  since-own side g at s next shut-raises-again y = tt
+  since-own side g at s next shut-wakes-again y = tt
 
   -- the other's bell and its count of raises go together
   pub since-other : (side : Side) (s : Step) (a : Access) (ph : Phase) → Does side (p .counter) s a

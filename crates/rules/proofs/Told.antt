@@ -36,7 +36,7 @@ use Rattle.rules.proofs.Answered.{given-only}
 use Rattle.rules.proofs.Rooms.{asRoom}
 use Rattle.rules.proofs.Leads.{Tells}
 use Rattle.rules.proofs.Taken.{turnWorld, turn-refused}
-use Rattle.rules.proofs.RealTurn.{own-is, next-step, tells-here, after-turn, turn-is-after, real-after}
+use Rattle.rules.proofs.RealTurn.{sightAt, own-is, next-step, tells-here, after-turn, turn-is-after, real-after}
 use Rattle.rules.proofs.RealRun.{power-fits, slot-fits, real-reached, waiting-is}
 use Rattle.rules.proofs.Heard.{setsNone}
 use Rattle.rules.proofs.Listening.{mover-is, flags-same}
@@ -85,9 +85,9 @@ module _ (P S v : ℕ) (on : Bool) (power-ok : powerOk P ≡ true) (slot-ok : sl
     after = after-turn P S v on power-ok slot-ok w (d .real) Recorder payload lent Fine g
 
     told-at : (u : Step) → s ≡ u
-        → Tells (p .own) (roomIn P S v on Recorder (w .trace)) (roomIn P S v on (other Recorder) (w .trace)) (doorOf Recorder (leAt 4 (w .region) flagsAt)) (leAt 4 (w .region) (bellAt (sleepBell Recorder))) (p .counter) value u
+        → Tells (p .own) (sightAt P S v on Recorder (p .own) (w .region) (w .trace) (p .blocking)) (p .counter) value u
     told-at u e =
-        subst (λ (x : Step). Tells (p .own) (roomIn P S v on Recorder (w .trace)) (roomIn P S v on (other Recorder) (w .trace)) (doorOf Recorder (leAt 4 (w .region) flagsAt)) (leAt 4 (w .region) (bellAt (sleepBell Recorder))) (p .counter) value x) e
+        subst (λ (x : Step). Tells (p .own) (sightAt P S v on Recorder (p .own) (w .region) (w .trace) (p .blocking)) (p .counter) value x) e
         (tells-here P S v on power-ok slot-ok w (d .real) Recorder payload lent Fine g)
 
     step-at : (u : Step) → s ≡ u → next ≡ stepAfter (moveAt u (p .own) (p .counter) (p .blocking) (p .length) value 0) u
