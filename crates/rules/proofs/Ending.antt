@@ -34,7 +34,7 @@ use Rattle.rules.specs.Bench.{settled, played, playedLeaves}
 use Rattle.rules.specs.Run.{World, Happening, attaches, plays, partyIn, takes, happens, run, opened}
 use Rattle.rules.specs.Premises.{Typed, AllTyped, AllFair}
 use Rattle.rules.specs.Stretch.{moves, calling, countsBy, tickBy, ticksBy, OwnDoing, AllOwn}
-use Rattle.rules.specs.Claims.{stopTurns, Follow, Fresh, reached, Stopped, AtRest, EndsTicks, Ends, SpinsWithin}
+use Rattle.rules.specs.Claims.{lastLooks, stopTurns, Follow, Fresh, reached, Stopped, AtRest, EndsTicks, Ends, SpinsWithin}
 use Rattle.rules.proofs.Views.{Kind, rests, dreams, acts, kind}
 use Rattle.rules.proofs.After.{flagsBy}
 use Rattle.rules.proofs.Kept.{flag-up}
@@ -46,7 +46,7 @@ use Rattle.rules.proofs.RealRun.{power-fits, slot-fits, real-reached, r
 use Rattle.rules.proofs.Heard.{Cause, none, duty}
 use Rattle.rules.proofs.Does.{less}
 use Rattle.rules.proofs.Costs.{ownRoom}
-use Rattle.rules.proofs.Nearer.{toRest, room-le, near, nearer}
+use Rattle.rules.proofs.Nearer.{toRest, room-le, one-more, near, nearer}
 use Rattle.rules.proofs.Listening.{duty-kept, mover-is, waiter-is, room-after, flags-left}
 use Rattle.rules.proofs.Fairly.{Ready, ready-happens, quiet-duty, dozes}
 use Rattle.rules.proofs.Causes.{ready-reached}
@@ -69,41 +69,34 @@ stop-cause zero z e = rw e tt
 stop-cause (suc k) z e = tt
 
 -- a turn before rest
-one-less : (s : Step) (k then : ℕ) → (s ≡ Rest → ⊥) → then ≤ less (toRest s k) → (n : ℕ) → toRest s k ≤ n → (then ≤ n - 1) × (1 ≤ n)
-one-less s k then i h n l = by (toRest s k) refl h l
+one-less : (side : Side) (s : Step) (k then : ℕ) → (s ≡ Rest → ⊥) → then ≤ less (toRest side s k) → (n : ℕ) → toRest side s k ≤ n → (then ≤ n - 1) × (1 ≤ n)
+one-less side s k then i h n l = by (toRest side s k) refl h l
   where
-    by : (m : ℕ) → toRest s k ≡ m → then ≤ less m → m ≤ n → (then ≤ n - 1) × (1 ≤ n)
-    by zero e h l = absurd (i (near s k .rested (omega arith)))
+    by : (m : ℕ) → toRest side s k ≡ m → then ≤ less m → m ≤ n → (then ≤ n - 1) × (1 ≤ n)
+    by zero e h l = absurd (i (near side s k .rested (omega arith)))
     by (suc m) e h l = (omega arith, omega arith)
 
--- the number is at least seven, and five and the spins that follow
-stop-seven : (n : ℕ) → 7 ≤ stopTurns n
-stop-seven n = by (leb n 2) refl
+-- the number is at least seven, and at least what follows so many spins
+either-most : (x : ℕ) → (7 ≤ pick (leb x 7) 7 x) × (x ≤ pick (leb x 7) 7 x)
+either-most x = by (leb x 7) refl
   where
-    by : (few : Bool) → leb n 2 ≡ few → 7 ≤ pick few 7 (n + 5)
-    by true e = omega arith
-    by false e = omega (arith, leb-false n 2 e)
+    by : (few : Bool) → leb x 7 ≡ few → (7 ≤ pick few 7 x) × (x ≤ pick few 7 x)
+    by true e = (omega arith, leb-true x 7 e)
+    by false e = (omega (arith, leb-false x 7 e), omega arith)
 
-stop-spins : (n m : ℕ) → m ≤ n → m + 5 ≤ stopTurns n
-stop-spins n m h = by (leb n 2) refl
-  where
-    by : (few : Bool) → leb n 2 ≡ few → m + 5 ≤ pick few 7 (n + 5)
-    by true e = omega (arith, leb-true n 2 e)
-    by false e = omega arith
-
-idle-rest : (s : Step) (k : ℕ) → Idle s → toRest s k ≤ 6
-idle-rest s k at-rest = omega arith
-idle-rest s k looks = room-le k 3 6 6 (omega arith) (omega arith)
-idle-rest s k glances = room-le k 1 6 6 (omega arith) (omega arith)
-idle-rest s k closes = omega arith
-idle-rest s k shuts = omega arith
+idle-rest : (side : Side) (s : Step) (k : ℕ) → Idle s → toRest side s k ≤ 6
+idle-rest side s k at-rest = omega arith
+idle-rest side s k looks = room-le k (2 + lastLooks side) 6 6 (omega (arith, one-more side)) (omega arith)
+idle-rest side s k glances = room-le k 1 6 6 (omega arith) (omega arith)
+idle-rest side s k closes = omega arith
+idle-rest side s k shuts = omega arith
 
 module _ (P S v : ℕ) (on : Bool) where
   -- a stretch under way: the other owes nothing, a flag is up, so many turns are left at most
   pub record Ending (side : Side) (n : ℕ) (w : World) : Type 0 where
     pub quiet : duty (other side) (partyIn w (other side) .step) ≡ none
     pub up : stopAt side (leAt 4 (w .region) flagsAt) ≡ true
-    pub left : toRest (partyIn w side .step) (roomIn P S v on side (w .trace)) ≤ n
+    pub left : toRest side (partyIn w side .step) (roomIn P S v on side (w .trace)) ≤ n
 
   abbrev pub Then : Side → (n t : ℕ) → World → Type 0
   Then side n t w = Ending side (n - t) w × (t ≤ n)
@@ -122,7 +115,7 @@ module _ (P S v : ℕ) (on : Bool) where
       by (inr e) =
           let l : 6 ≤ n = rw e at (d .left) in
           then-same side n (seated P S v on w side q)
-          (record { quiet = rw (seat-two side (w .bench) q) (d .quiet); up = d .up; left = rw (seat-one side (w .bench) q) (omega (arith, idle-rest (q .step) (roomIn P S v on side (w .trace)) (b .idle))) })
+          (record { quiet = rw (seat-two side (w .bench) q) (d .quiet); up = d .up; left = rw (seat-one side (w .bench) q) (omega (arith, idle-rest side (q .step) (roomIn P S v on side (w .trace)) (b .idle))) })
 
   -- where a sleeper's turns count, one with a flag up does not sleep
   abbrev Rouses : (counted : Stance → Bool) → Side → World → Type 0
@@ -143,7 +136,7 @@ module _ (P S v : ℕ) (on : Bool) where
         abbrev after : World
         after = after-turn P S v on power-ok slot-ok w real side payload lent fault g
 
-        still-ending : (m : ℕ) → toRest next (ownRoom s k) ≤ m → Ending side m after
+        still-ending : (m : ℕ) → toRest side next (ownRoom s k) ≤ m → Ending side m after
         still-ending m l =
             let me = mover-is P S v on power-ok slot-ok w real side payload lent fault g in
             let them = waiter-is P S v on power-ok slot-ok w real side payload lent fault g in
@@ -156,7 +149,7 @@ module _ (P S v : ℕ) (on : Bool) where
         moves-nearer : (s ≡ Asleep → ⊥) → Then side n 1 after
         moves-nearer j =
             let leads = leads-here P S v on power-ok slot-ok w real side payload lent fault g in
-            let fell = one-less s k (toRest next (ownRoom s k)) i (nearer _ s next leads (stop-barred side (leAt 4 (w .region) flagsAt) ∙ d .up) j) n (d .left) in
+            let fell = one-less side s k (toRest side next (ownRoom s k)) i (nearer _ s next leads (stop-barred side (leAt 4 (w .region) flagsAt) ∙ d .up) j) n (d .left) in
             (still-ending (n - 1) (fell .0), fell .1)
 
         sleeps-on : s ≡ Asleep → Then side n 0 after
@@ -210,7 +203,7 @@ module _ (P S v : ℕ) (on : Bool) where
         (rouses : (hs : List Happening) (w : World) (n : ℕ) → Keeps hs w → Ending side n w → Rouses counted side w) where
       pub ending-run : (ms : List Happening) (w : World) → AllTyped ms → AllOwn side ms → Real P S v on w → Keeps ms w → (n : ℕ) → Ending side n w → n ≤ ticksBy counted ms w → Ended side ms n w
       unfolding run
-      ending-run [] w t m real y n d l = ([], ([], (refl, (omega arith, near (partyIn w side .step) (roomIn P S v on side (w .trace)) .rested (omega (arith, d .left))))))
+      ending-run [] w t m real y n d l = ([], ([], (refl, (omega arith, near side (partyIn w side .step) (roomIn P S v on side (w .trace)) .rested (omega (arith, d .left))))))
       ending-run (h ∷ ms) w t m real y n d l =
           by (partyIn w side .step) refl (kind (partyIn w side .step))
           (λ i.
@@ -229,12 +222,13 @@ module _ (r : List ℕ) (P S : ℕ) (on : Bool) (v : ℕ) (fresh : Fresh r P S o
   ends-by : (counted : Stance → Bool) → Count counted → (side : Side) (Keeps : List Happening → World → Type 0)
       → ((h : Happening) (hs : List Happening) (w : World) → Typed h → Real P S v on w → Keeps (h ∷ hs) w → Keeps hs (happens h w))
       → ((hs : List Happening) (w : World) (n : ℕ) → Keeps hs w → Ending P S v on side n w → Rouses P S v on counted side w)
-      → (hs ms : List Happening) (n : ℕ) → AllTyped (hs ++ ms) → Stopped r P S on v side hs → Follow side n (reached r P S on v hs) → AllOwn side ms → Keeps ms (reached r P S on v hs) → stopTurns n ≤ ticksBy counted ms (reached r P S on v hs) → AtRest r P S on v counted side n hs ms
+      → (hs ms : List Happening) (n : ℕ) → AllTyped (hs ++ ms) → Stopped r P S on v side hs → Follow side n (reached r P S on v hs) → AllOwn side ms → Keeps ms (reached r P S on v hs) → stopTurns side n ≤ ticksBy counted ms (reached r P S on v hs) → AtRest r P S on v counted side n hs ms
   ends-by counted count side Keeps goes rouses hs ms n t stop few own y long =
       let w = reached r P S on v hs in
       let typed = typed-parts hs ms t in
-      let start : Ending P S v on side (stopTurns n) w = record { quiet = quiet-duty (other side) (partyIn w (other side) .step) (stop .0); up = stop .1; left = near (partyIn w side .step) (roomIn P S v on side (w .trace)) .most (stopTurns n) (stop-seven n) (λ m e. stop-spins n m (few m e)) } in
-      let done = ending-run P S v on (power-fits r P S on v fresh) (slot-fits r P S on v fresh) counted count side Keeps goes rouses ms w (typed .1) own (real-reached r P S on v fresh hs (typed .0)) y (stopTurns n) start long in
+      let either = either-most (n + 4 + lastLooks side) in
+      let start : Ending P S v on side (stopTurns side n) w = record { quiet = quiet-duty (other side) (partyIn w (other side) .step) (stop .0); up = stop .1; left = near side (partyIn w side .step) (roomIn P S v on side (w .trace)) .most (stopTurns side n) (either .0) (λ m e. omega (arith, few m e, either .1)) } in
+      let done = ending-run P S v on (power-fits r P S on v fresh) (slot-fits r P S on v fresh) counted count side Keeps goes rouses ms w (typed .1) own (real-reached r P S on v fresh hs (typed .0)) y (stopTurns side n) start long in
       (done .0, (done .1 .0, (done .1 .1 .0, (done .1 .1 .1 .0, subst (λ (u : World). partyIn u side .step ≡ Rest) (sym (run-parts hs (done .0) (opened (created r P S on v)))) (done .1 .1 .1 .1)))))
 
   -- document 01's turns: nothing is asked of wakes and bells

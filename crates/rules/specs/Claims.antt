@@ -59,9 +59,14 @@ Carries l t trace =
 abbrev pub Follow : Side → (n : ℕ) → World → Type 0
 Follow side n w = (m : ℕ) → partyIn w side .step ≡ Spin m → m ≤ n
 
--- T4's number: 7, and where n spins may follow n and 5, if that is more
-abbrev pub stopTurns : (n : ℕ) → ℕ
-stopTurns n = pick (leb n 2) 7 (n + 5)
+-- once the other has closed, a recorder looks once more
+abbrev pub lastLooks : Side → ℕ
+lastLooks Sender = 0
+lastLooks Recorder = 1
+
+-- T4's number: 7, or where n spins may follow these, 4 and the last look, if that is more
+abbrev pub stopTurns : Side → (n : ℕ) → ℕ
+stopTurns side n = pick (leb (n + 4 + lastLooks side) 7) 7 (n + 4 + lastLooks side)
 
 -- T8: asking is taken. A party at rest, with a sound record (attached, of that side, its sizes and length within the limits),
 -- is begun: a push that is not closed, not 19 and not 18; a pop and a close that are not closed; a shutdown always
@@ -170,17 +175,17 @@ module _ (region : List ℕ) (power slot : ℕ) (notfull : Bool) (start : ℕ) w
   -- .. a call under way has answered after a first part of at most so many turns of its own, whatever its waits do and whatever it asks meanwhile
   abbrev pub AtRest : (counted : Stance → Bool) → Side → (n : ℕ) → (hs ms : List Happening) → Type 0
   AtRest counted side n hs ms =
-      (first : List Happening) × ((rest : List Happening) × ((ms ≡ first ++ rest) × ((ticksBy counted first (reached hs) ≤ stopTurns n) × (partyIn (reached (hs ++ first)) side .step ≡ Rest))))
+      (first : List Happening) × ((rest : List Happening) × ((ms ≡ first ++ rest) × ((ticksBy counted first (reached hs) ≤ stopTurns side n) × (partyIn (reached (hs ++ first)) side .step ≡ Rest))))
 
   -- by document 01's turns, whatever wakes and bells do; and, on a run that is fair to it, with those it sleeps through
   abbrev pub EndsTicks : Side → Type 0
-  EndsTicks side = (hs ms : List Happening) (n : ℕ) → AllTyped (hs ++ ms) → Stopped side hs → Follow side n (reached hs) → AllOwn side ms → stopTurns n ≤ ticks ms (reached hs) → AtRest moves side n hs ms
+  EndsTicks side = (hs ms : List Happening) (n : ℕ) → AllTyped (hs ++ ms) → Stopped side hs → Follow side n (reached hs) → AllOwn side ms → stopTurns side n ≤ ticks ms (reached hs) → AtRest moves side n hs ms
 
   abbrev pub Ends : Side → Type 0
   Ends side = (hs ms : List Happening) (n : ℕ) → AllTyped (hs ++ ms) → AllFair side (hs ++ ms) (opened (created region power slot notfull start))
-      → Stopped side hs → Follow side n (reached hs) → AllOwn side ms → stopTurns n ≤ beats ms (reached hs) → AtRest calling side n hs ms
+      → Stopped side hs → Follow side n (reached hs) → AllOwn side ms → stopTurns side n ≤ beats ms (reached hs) → AtRest calling side n hs ms
 
-  -- at a spin fewer follow than the record's count, so that the number is 7 or the count and 4
+  -- at a spin fewer follow than the record's count: T4's number is 7, or the count and 3, and 1 for a recorder
   abbrev pub SpinsWithin : Side → Type 0
   SpinsWithin side = (hs : List Happening) (n : ℕ) → AllTyped hs → partyIn (reached hs) side .step ≡ Spin n → n < partyIn (reached hs) side .own .spins
 
