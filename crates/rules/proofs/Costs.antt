@@ -1,10 +1,8 @@
 -- The turns that are left to a store: the cost falls by one at each.
 use mathlib.Core.Path.{_≡_, refl}
-use mathlib.Core.Bool.{Bool}
 use Prim.Native.Nat.{ℕ, zero, suc, _+_, _*_, _-_, _≤_}
 use native.Mathlib.Omega.{arith}
 use lib.Dec.{T}
-use Rattle.types.specs.declared.Door.{Door}
 use Rattle.types.specs.declared.Step.{Step}
 use Rattle.types.specs.declared.Step.the-variants.{Rest, Look, Copy, Publish, Check, Raise, Wake, Gate, Spin, Epoch, Again, GateAgain, Wait, Asleep, LastLook, CloseSet, CloseRaise, CloseWake, ShutSet, ShutRaiseNe, ShutWakeNe, ShutRaiseNf, ShutWakeNf}
 use Rattle.rules.specs.Take.{stanceOf}
@@ -136,18 +134,18 @@ fall g k e s next wakes c i j f = omega arith
 fall g k e s next (enters h o) c i j f = omega (arith, ahead-on _ next (g .theirs) o)
 fall g k e s next (finds-spin h) c i j f = omega arith
 fall g k e s next (spins h o) c i j f = absurd (omega arith)
-fall g k e s next (stops h) c i j f = omega arith
+fall g k e s next (stops h u) c i j f = omega arith
 fall g k e s next reads c i j f = omega arith
 fall g k e s next (finds-again h) c i j f = omega arith
 fall g k e s next (stays h) c i j f = absurd (omega arith)
 fall g k e s next (enters-again h) c i j f = omega arith
-fall g k e s next (stops-again h) c i j f = omega arith
+fall g k e s next (stops-again h u) c i j f = omega arith
 fall g k e s next (falls-asleep h) c i j f = omega arith
 fall g k e s next returns c i j f = omega arith
 fall g k e s next ends c i j f = omega arith
 fall g k e s next dreams c i j f = absurd (j refl)
-fall g k e s next (glances u h) c i j f = omega arith
-fall g k e s next (glances-again u h) c i j f = omega arith
+fall g k e s next (glances h u) c i j f = omega arith
+fall g k e s next (glances-again h u) c i j f = omega arith
 fall g k e s next times-out c i j f = omega arith
 fall g k e s next (finds-last h) c i j f = omega arith
 fall g k e s next (finds-none h) c i j f = absurd (omega arith)
@@ -178,18 +176,18 @@ calls-on g s next wakes c = tt
 calls-on g s next (enters h o) c = rw (asks _ _ o) tt
 calls-on g s next (finds-spin h) c = tt
 calls-on g s next (spins h o) c = rw (asks _ _ o) tt
-calls-on g s next (stops h) c = tt
+calls-on g s next (stops h u) c = tt
 calls-on g s next reads c = tt
 calls-on g s next (finds-again h) c = tt
 calls-on g s next (stays h) c = tt
 calls-on g s next (enters-again h) c = tt
-calls-on g s next (stops-again h) c = tt
+calls-on g s next (stops-again h u) c = tt
 calls-on g s next (falls-asleep h) c = tt
 calls-on g s next returns c = tt
 calls-on g s next ends c = tt
 calls-on g s next dreams c = tt
-calls-on g s next (glances u h) c = tt
-calls-on g s next (glances-again u h) c = tt
+calls-on g s next (glances h u) c = tt
+calls-on g s next (glances-again h u) c = tt
 calls-on g s next times-out c = tt
 calls-on g s next (finds-last h) c = tt
 calls-on g s next (finds-none h) c = tt

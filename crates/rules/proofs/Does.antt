@@ -29,6 +29,10 @@ pub under : (x y : ℕ) → suc x ≤ y → x ≤ less y
 under x zero h = absurd (omega arith)
 under x (suc y) h = omega arith
 
+pub less-one : (x y : ℕ) → suc x ≡ y → x ≡ less y
+less-one x zero h = absurd (omega arith)
+less-one x (suc y) h = omega arith
+
 abbrev pub ownAfter : Stance → ℕ → ℕ
 ownAfter Resting k = k
 ownAfter Sleeping k = k

@@ -21,6 +21,8 @@ use Rattle.types.specs.declared.Step.the-variants.{Rest, Asleep}
 use Rattle.types.specs.declared.Stance.{Stance}
 use Rattle.types.specs.declared.Stance.the-variants.{Sleeping}
 use Rattle.types.specs.declared.Side.the-variants.{Sender, Recorder}
+use Rattle.types.specs.declared.Door.{Door}
+use Rattle.types.specs.declared.Door.the-variants.{Shut, Left, Open}
 use Rattle.types.specs.declared.Access.{Access}
 use Rattle.layout.specs.Limits.{powerOk, slotOk}
 use Rattle.layout.specs.Flags.{worth, reservedFrom, bitOn, closeMark}
@@ -38,7 +40,7 @@ use Rattle.rules.specs.Claims.{lastLooks, stopTurns, Follow, Fresh, reac
 use Rattle.rules.proofs.Views.{Kind, rests, dreams, acts, kind}
 use Rattle.rules.proofs.After.{flagsBy}
 use Rattle.rules.proofs.Kept.{flag-up}
-use Rattle.rules.proofs.Leads.{stopAt, stop-barred}
+use Rattle.rules.proofs.Leads.{stopAt, stop-barred, lastAt}
 use Rattle.rules.proofs.Taken.{turnWorld, turn-refused}
 use Rattle.rules.proofs.RealTurn.{next-step, leads-here, after-turn, turn-is-after}
 use Rattle.rules.proofs.RealCalls.{Idle, rests as at-rest, looks, glances, closes, shuts, Changed, seat-same, seat-one, seat-two, seated, push-changes, pop-changes, close-changes, shut-changes, spurious-changes, timeout-changes}
@@ -46,7 +48,7 @@ use Rattle.rules.proofs.RealRun.{power-fits, slot-fits, real-reached, r
 use Rattle.rules.proofs.Heard.{Cause, none, duty}
 use Rattle.rules.proofs.Does.{less}
 use Rattle.rules.proofs.Costs.{ownRoom}
-use Rattle.rules.proofs.Nearer.{toRest, room-le, one-more, near, nearer}
+use Rattle.rules.proofs.Nearer.{toRest, room-le, near, nearer}
 use Rattle.rules.proofs.Listening.{duty-kept, mover-is, waiter-is, room-after, flags-left}
 use Rattle.rules.proofs.Fairly.{Ready, ready-happens, quiet-duty, dozes}
 use Rattle.rules.proofs.Causes.{ready-reached}
@@ -68,12 +70,23 @@ stop-cause : (k : ℕ) (z : Bool) → z ≡ true → Cause k z
 stop-cause zero z e = rw e tt
 stop-cause (suc k) z e = tt
 
+pub one-more : (side : Side) → lastLooks side ≤ 1
+one-more Sender = omega arith
+one-more Recorder = omega arith
+
+-- as many last looks as there may be
+looks-most : (side : Side) (d : Door) → lastAt side d ≤ lastLooks side
+looks-most Sender d = omega arith
+looks-most Recorder Shut = omega arith
+looks-most Recorder Left = omega arith
+looks-most Recorder Open = omega arith
+
 -- a turn before rest
-one-less : (side : Side) (s : Step) (k then : ℕ) → (s ≡ Rest → ⊥) → then ≤ less (toRest side s k) → (n : ℕ) → toRest side s k ≤ n → (then ≤ n - 1) × (1 ≤ n)
-one-less side s k then i h n l = by (toRest side s k) refl h l
+one-less : (side : Side) (s : Step) (k then : ℕ) → (s ≡ Rest → ⊥) → then ≤ less (toRest (lastLooks side) s k) → (n : ℕ) → toRest (lastLooks side) s k ≤ n → (then ≤ n - 1) × (1 ≤ n)
+one-less side s k then i h n l = by (toRest (lastLooks side) s k) refl h l
   where
-    by : (m : ℕ) → toRest side s k ≡ m → then ≤ less m → m ≤ n → (then ≤ n - 1) × (1 ≤ n)
-    by zero e h l = absurd (i (near side s k .rested (omega arith)))
+    by : (m : ℕ) → toRest (lastLooks side) s k ≡ m → then ≤ less m → m ≤ n → (then ≤ n - 1) × (1 ≤ n)
+    by zero e h l = absurd (i (near (lastLooks side) (one-more side) s k .rested (omega arith)))
     by (suc m) e h l = (omega arith, omega arith)
 
 -- the number is at least seven, and at least what follows so many spins
@@ -84,7 +97,7 @@ either-most x = by (leb x 7) refl
     by true e = (omega arith, leb-true x 7 e)
     by false e = (omega (arith, leb-false x 7 e), omega arith)
 
-idle-rest : (side : Side) (s : Step) (k : ℕ) → Idle s → toRest side s k ≤ 6
+idle-rest : (side : Side) (s : Step) (k : ℕ) → Idle s → toRest (lastLooks side) s k ≤ 6
 idle-rest side s k at-rest = omega arith
 idle-rest side s k looks = room-le k (2 + lastLooks side) 6 6 (omega (arith, one-more side)) (omega arith)
 idle-rest side s k glances = room-le k 1 6 6 (omega arith) (omega arith)
@@ -96,7 +109,7 @@ module _ (P S v : ℕ) (on : Bool) where
   pub record Ending (side : Side) (n : ℕ) (w : World) : Type 0 where
     pub quiet : duty (other side) (partyIn w (other side) .step) ≡ none
     pub up : stopAt side (leAt 4 (w .region) flagsAt) ≡ true
-    pub left : toRest side (partyIn w side .step) (roomIn P S v on side (w .trace)) ≤ n
+    pub left : toRest (lastLooks side) (partyIn w side .step) (roomIn P S v on side (w .trace)) ≤ n
 
   abbrev pub Then : Side → (n t : ℕ) → World → Type 0
   Then side n t w = Ending side (n - t) w × (t ≤ n)
@@ -136,7 +149,7 @@ module _ (P S v : ℕ) (on : Bool) where
         abbrev after : World
         after = after-turn P S v on power-ok slot-ok w real side payload lent fault g
 
-        still-ending : (m : ℕ) → toRest side next (ownRoom s k) ≤ m → Ending side m after
+        still-ending : (m : ℕ) → toRest (lastLooks side) next (ownRoom s k) ≤ m → Ending side m after
         still-ending m l =
             let me = mover-is P S v on power-ok slot-ok w real side payload lent fault g in
             let them = waiter-is P S v on power-ok slot-ok w real side payload lent fault g in
@@ -149,7 +162,7 @@ module _ (P S v : ℕ) (on : Bool) where
         moves-nearer : (s ≡ Asleep → ⊥) → Then side n 1 after
         moves-nearer j =
             let leads = leads-here P S v on power-ok slot-ok w real side payload lent fault g in
-            let fell = one-less side s k (toRest side next (ownRoom s k)) i (nearer _ s next leads (stop-barred side (leAt 4 (w .region) flagsAt) ∙ d .up) j) n (d .left) in
+            let fell = one-less side s k (toRest (lastLooks side) next (ownRoom s k)) i (nearer _ (lastLooks side) (one-more side) (looks-most side _) s next leads (stop-barred side (leAt 4 (w .region) flagsAt) ∙ d .up) j) n (d .left) in
             (still-ending (n - 1) (fell .0), fell .1)
 
         sleeps-on : s ≡ Asleep → Then side n 0 after
@@ -203,7 +216,7 @@ module _ (P S v : ℕ) (on : Bool) where
         (rouses : (hs : List Happening) (w : World) (n : ℕ) → Keeps hs w → Ending side n w → Rouses counted side w) where
       pub ending-run : (ms : List Happening) (w : World) → AllTyped ms → AllOwn side ms → Real P S v on w → Keeps ms w → (n : ℕ) → Ending side n w → n ≤ ticksBy counted ms w → Ended side ms n w
       unfolding run
-      ending-run [] w t m real y n d l = ([], ([], (refl, (omega arith, near side (partyIn w side .step) (roomIn P S v on side (w .trace)) .rested (omega (arith, d .left))))))
+      ending-run [] w t m real y n d l = ([], ([], (refl, (omega arith, near (lastLooks side) (one-more side) (partyIn w side .step) (roomIn P S v on side (w .trace)) .rested (omega (arith, d .left))))))
       ending-run (h ∷ ms) w t m real y n d l =
           by (partyIn w side .step) refl (kind (partyIn w side .step))
           (λ i.
@@ -227,7 +240,7 @@ module _ (r : List ℕ) (P S : ℕ) (on : Bool) (v : ℕ) (fresh : Fresh r P S o
       let w = reached r P S on v hs in
       let typed = typed-parts hs ms t in
       let either = either-most (n + 4 + lastLooks side) in
-      let start : Ending P S v on side (stopTurns side n) w = record { quiet = quiet-duty (other side) (partyIn w (other side) .step) (stop .0); up = stop .1; left = near side (partyIn w side .step) (roomIn P S v on side (w .trace)) .most (stopTurns side n) (either .0) (λ m e. omega (arith, few m e, either .1)) } in
+      let start : Ending P S v on side (stopTurns side n) w = record { quiet = quiet-duty (other side) (partyIn w (other side) .step) (stop .0); up = stop .1; left = near (lastLooks side) (one-more side) (partyIn w side .step) (roomIn P S v on side (w .trace)) .most (stopTurns side n) (either .0) (λ m e. omega (arith, few m e, either .1)) } in
       let done = ending-run P S v on (power-fits r P S on v fresh) (slot-fits r P S on v fresh) counted count side Keeps goes rouses ms w (typed .1) own (real-reached r P S on v fresh hs (typed .0)) y (stopTurns side n) start long in
       (done .0, (done .1 .0, (done .1 .1 .0, (done .1 .1 .1 .0, subst (λ (u : World). partyIn u side .step ≡ Rest) (sym (run-parts hs (done .0) (opened (created r P S on v)))) (done .1 .1 .1 .1)))))
 

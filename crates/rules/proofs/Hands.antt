@@ -11,7 +11,6 @@ use Rattle.types.specs.declared.Side.{Side}
 use Rattle.types.specs.declared.Side.the-variants.{Sender, Recorder}
 use Rattle.types.specs.declared.Bell.the-variants.{NotEmpty, NotFull}
 use Rattle.types.specs.declared.Party.{Party}
-use Rattle.types.specs.declared.Door.{Door}
 use Rattle.types.specs.declared.Step.{Step}
 use Rattle.types.specs.declared.Step.the-variants.{Copy, Publish, Raise}
 use Rattle.types.specs.declared.Stance.{Stance}
@@ -131,18 +130,18 @@ module _ (P S v : ℕ) (on : Bool) (power-ok : powerOk P ≡ true) (slot-ok : sl
   room-own side g at s next (enters h o) y = rw (asks _ _ o) tt
   room-own side g at s next (finds-spin h) y = rw (sym at) h
   room-own side g at s next (spins h o) y = rw (asks _ _ o) tt
-  room-own side g at s next (stops h) y = tt
+  room-own side g at s next (stops h i) y = tt
   room-own side g at s next reads y = tt
   room-own side g at s next (finds-again h) y = rw (sym at) h
   room-own side g at s next (stays h) y = tt
   room-own side g at s next (enters-again h) y = tt
-  room-own side g at s next (stops-again h) y = tt
+  room-own side g at s next (stops-again h i) y = tt
   room-own side g at s next (sleeps h) y = tt
   room-own side g at s next returns y = tt
   room-own side g at s next ends y = tt
   room-own side g at s next dreams y = tt
-  room-own side g at s next (glances u h) y = tt
-  room-own side g at s next (glances-again u h) y = tt
+  room-own side g at s next (glances h u) y = tt
+  room-own side g at s next (glances-again h u) y = tt
   room-own side g at s next times-out y = tt
   room-own side g at s next (finds-last h) y = rw (sym at) h
   room-own side g at s next (finds-none h) y = tt
@@ -187,18 +186,18 @@ module _ (P S v : ℕ) (on : Bool) (power-ok : powerOk P ≡ true) (slot-ok : sl
   hand-own side g s next at u (enters h o) y = in-hand-none P S v on side (phase next) (left (nextAt s side (p .counter))) (told (nextAt s side (p .counter))) (rw (asks _ _ o) tt)
   hand-own side g s next at u (finds-spin h) y = in-hand-none P S v on side (phase next) (left (nextAt s side (p .counter))) (told (nextAt s side (p .counter))) tt
   hand-own side g s next at u (spins h o) y = in-hand-none P S v on side (phase next) (left (nextAt s side (p .counter))) (told (nextAt s side (p .counter))) (rw (asks _ _ o) tt)
-  hand-own side g s next at u (stops h) y = in-hand-none P S v on side (phase next) (left (nextAt s side (p .counter))) (told (nextAt s side (p .counter))) tt
+  hand-own side g s next at u (stops h i) y = in-hand-none P S v on side (phase next) (left (nextAt s side (p .counter))) (told (nextAt s side (p .counter))) tt
   hand-own side g s next at u reads y = in-hand-none P S v on side (phase next) (left (nextAt s side (p .counter))) (told (nextAt s side (p .counter))) tt
   hand-own side g s next at u (finds-again h) y = in-hand-none P S v on side (phase next) (left (nextAt s side (p .counter))) (told (nextAt s side (p .counter))) tt
   hand-own side g s next at u (stays h) y = in-hand-none P S v on side (phase next) (left (nextAt s side (p .counter))) (told (nextAt s side (p .counter))) tt
   hand-own side g s next at u (enters-again h) y = in-hand-none P S v on side (phase next) (left (nextAt s side (p .counter))) (told (nextAt s side (p .counter))) tt
-  hand-own side g s next at u (stops-again h) y = in-hand-none P S v on side (phase next) (left (nextAt s side (p .counter))) (told (nextAt s side (p .counter))) tt
+  hand-own side g s next at u (stops-again h i) y = in-hand-none P S v on side (phase next) (left (nextAt s side (p .counter))) (told (nextAt s side (p .counter))) tt
   hand-own side g s next at u (sleeps h) y = in-hand-none P S v on side (phase next) (left (nextAt s side (p .counter))) (told (nextAt s side (p .counter))) tt
   hand-own side g s next at u returns y = in-hand-none P S v on side (phase next) (left (nextAt s side (p .counter))) (told (nextAt s side (p .counter))) tt
   hand-own side g s next at u ends y = in-hand-none P S v on side (phase next) (left (nextAt s side (p .counter))) (told (nextAt s side (p .counter))) tt
   hand-own side g s next at u dreams y = in-hand-none P S v on side (phase next) (left (nextAt s side (p .counter))) (told (nextAt s side (p .counter))) tt
-  hand-own side g s next at u (glances i h) y = in-hand-none P S v on side (phase next) (left (nextAt s side (p .counter))) (told (nextAt s side (p .counter))) tt
-  hand-own side g s next at u (glances-again i h) y = in-hand-none P S v on side (phase next) (left (nextAt s side (p .counter))) (told (nextAt s side (p .counter))) tt
+  hand-own side g s next at u (glances h i) y = in-hand-none P S v on side (phase next) (left (nextAt s side (p .counter))) (told (nextAt s side (p .counter))) tt
+  hand-own side g s next at u (glances-again h i) y = in-hand-none P S v on side (phase next) (left (nextAt s side (p .counter))) (told (nextAt s side (p .counter))) tt
   hand-own side g s next at u times-out y = in-hand-none P S v on side (phase next) (left (nextAt s side (p .counter))) (told (nextAt s side (p .counter))) tt
   hand-own side g s next at u (finds-last h) y = in-hand-none P S v on side (phase next) (left (nextAt s side (p .counter))) (told (nextAt s side (p .counter))) tt
   hand-own side g s next at u (finds-none h) y = in-hand-none P S v on side (phase next) (left (nextAt s side (p .counter))) (told (nextAt s side (p .counter))) tt

@@ -5,7 +5,6 @@ use Prim.Native.Nat.{ℕ, zero, suc, _+_}
 use native.Mathlib.Omega.{arith}
 use Rattle.types.specs.declared.Side.{Side}
 use Rattle.types.specs.declared.Side.the-variants.{Sender, Recorder}
-use Rattle.types.specs.declared.Door.{Door}
 use Rattle.types.specs.declared.Step.{Step}
 use Rattle.types.specs.declared.Step.the-variants.{Rest, Look, Copy, Publish, Check, Raise, Wake, Gate, Spin, Epoch, Again, GateAgain, Wait, Asleep, LastLook, CloseSet, CloseRaise, CloseWake, ShutSet, ShutRaiseNe, ShutWakeNe, ShutRaiseNf, ShutWakeNf}
 use Rattle.types.specs.declared.Access.{Access}
@@ -267,18 +266,18 @@ theirs side g s next wakes t ok ph n z z′ f l y = rw (f refl) (landed-good ok 
 theirs side g s next (enters h o) t ok ph n z z′ f l y = rw (f refl, owes-none side _ next o) (calm ph n (g .theirs) z _ y)
 theirs side g s next (finds-spin h) t ok ph n z z′ f l y = rw (f refl) (calm ph n (g .theirs) z _ y)
 theirs side g s next (spins h o) t ok ph n z z′ f l y = rw (f refl, owes-none side _ next o) (calm ph n (g .theirs) z _ y)
-theirs side g s next (stops h) t ok ph n z z′ f l y = rw (f refl) (calm ph n (g .theirs) z _ y)
+theirs side g s next (stops h u) t ok ph n z z′ f l y = rw (f refl) (calm ph n (g .theirs) z _ y)
 theirs side g s next reads t ok ph n z z′ f l y = rw (f refl) (calm ph n (g .theirs) z _ y)
 theirs side g s next (finds-again h) t ok ph n z z′ f l y = rw (f refl) (calm ph n (g .theirs) z _ y)
 theirs side g s next (stays h) t ok ph n z z′ f l y = rw (f refl) (calm ph n (g .theirs) z _ y)
 theirs side g s next (enters-again h) t ok ph n z z′ f l y = rw (f refl) (calm ph n (g .theirs) z _ y)
-theirs side g s next (stops-again h) t ok ph n z z′ f l y = rw (f refl) (calm ph n (g .theirs) z _ y)
+theirs side g s next (stops-again h u) t ok ph n z z′ f l y = rw (f refl) (calm ph n (g .theirs) z _ y)
 theirs side g s next (falls-asleep h) t ok ph n z z′ f l y = rw (f refl) (calm ph n (g .theirs) z _ y)
 theirs side g s next returns t ok ph n z z′ f l y = rw (f refl) (calm ph n (g .theirs) z _ y)
 theirs side g s next ends t ok ph n z z′ f l y = rw (f refl) (calm ph n (g .theirs) z _ y)
 theirs side g s next dreams t ok ph n z z′ f l y = rw (f refl) y
-theirs side g s next (glances u h) t ok ph n z z′ f l y = rw (f refl) (calm ph n (g .theirs) z _ y)
-theirs side g s next (glances-again u h) t ok ph n z z′ f l y = rw (f refl) (calm ph n (g .theirs) z _ y)
+theirs side g s next (glances h u) t ok ph n z z′ f l y = rw (f refl) (calm ph n (g .theirs) z _ y)
+theirs side g s next (glances-again h u) t ok ph n z z′ f l y = rw (f refl) (calm ph n (g .theirs) z _ y)
 theirs side g s next times-out t ok ph n z z′ f l y = rw (f refl) (calm ph n (g .theirs) z _ y)
 theirs side g s next (finds-last h) t ok ph n z z′ f l y = rw (f refl) (calm ph n (g .theirs) z _ y)
 theirs side g s next (finds-none h) t ok ph n z z′ f l y = rw (f refl) (calm ph n (g .theirs) z _ y)

@@ -1,5 +1,5 @@
 -- Where a turn may lead, with what it then knows: one row a way.
-use mathlib.Core.Path.{_≡_, refl, sym, ap, _∙_}
+use mathlib.Core.Path.{_≡_, refl, sym, ap, ap₂, _∙_}
 use mathlib.Core.Bool.{Bool, true, false, _||_}
 use Prim.Native.Nat.{ℕ, zero, suc, _-_, _%_, _^_, _<_}
 use native.Mathlib.Omega.{arith}
@@ -49,6 +49,13 @@ stop-barred side flags = by (bitOn (worth Shutdown) flags) (bitOn (worth (closeM
     by false true = refl
     by false false = refl
 
+-- the last looks that are left to a side by its door: a recorder looks once more on the other's close
+abbrev pub lastAt : Side → Door → ℕ
+lastAt Sender d = 0
+lastAt Recorder Shut = 0
+lastAt Recorder Left = 1
+lastAt Recorder Open = 0
+
 pub open-door : (d : Door) → barred d ≡ false → d ≡ Open
 open-door Shut e = absurd (let z : _≡_ {A = ℕ} 0 1 = cc in omega arith)
 open-door Left e = absurd (let z : _≡_ {A = ℕ} 0 1 = cc in omega arith)
@@ -96,20 +103,20 @@ pub data Leads (g : Sight) : Step → Step → Type 0 where
   raises : {l t : ℕ} → Leads g (Raise l t) (Wake l t)
   wakes : {l t : ℕ} → Leads g (Wake l t) Rest
   enters : {t : Step} → g .door ≡ Open → Onward (g .spins) t → Leads g Gate t
-  stops : barred (g .door) ≡ true → Leads g Gate Rest
+  stops : barred (g .door) ≡ true → lastAt (g .side) (g .door) ≡ 0 → Leads g Gate Rest
   finds-spin : {n : ℕ} → 0 < g .room → Leads g (Spin n) Copy
   spins : {n : ℕ} {t : Step} → g .room ≡ 0 → Onward n t → Leads g (Spin n) t
   reads : Leads g Epoch (Again (g .bell % 2 ^ 32))
   finds-again : {e : ℕ} → 0 < g .room → Leads g (Again e) Copy
   stays : {e : ℕ} → g .room ≡ 0 → Leads g (Again e) (GateAgain e)
   enters-again : {e : ℕ} → g .door ≡ Open → Leads g (GateAgain e) (Wait e)
-  stops-again : {e : ℕ} → barred (g .door) ≡ true → Leads g (GateAgain e) Rest
+  stops-again : {e : ℕ} → barred (g .door) ≡ true → lastAt (g .side) (g .door) ≡ 0 → Leads g (GateAgain e) Rest
   sleeps : {e : ℕ} → g .bell ≡ e → Leads g (Wait e) Asleep
   returns : {e : ℕ} → Leads g (Wait e) Look
   ends : {e : ℕ} → Leads g (Wait e) Rest
   dreams : Leads g Asleep Asleep
-  glances : g .side ≡ Recorder → g .door ≡ Left → Leads g Gate (LastLook false)
-  glances-again : {e : ℕ} → g .side ≡ Recorder → g .door ≡ Left → Leads g (GateAgain e) (LastLook false)
+  glances : g .door ≡ Left → lastAt (g .side) (g .door) ≡ 1 → Leads g Gate (LastLook false)
+  glances-again : {e : ℕ} → g .door ≡ Left → lastAt (g .side) (g .door) ≡ 1 → Leads g (GateAgain e) (LastLook false)
   times-out : {e : ℕ} → Leads g (Wait e) (LastLook true)
   finds-last : {c : Bool} → 0 < g .room → Leads g (LastLook c) Copy
   finds-none : {c : Bool} → g .room ≡ 0 → Leads g (LastLook c) Rest
@@ -151,9 +158,10 @@ module _ (g : Sight) where
   check-leads l t false h = passes (eqb-false (g .theirs) 1 h)
 
   gate-leads : (side : Side) → g .side ≡ side → (d : Door) → g .door ≡ d → L Gate (stepAfter (doorMove d side (toSpin (g .spins))) Gate)
-  gate-leads side o Shut h = stops (ap barred h)
-  gate-leads Sender o Left h = stops (ap barred h)
-  gate-leads Recorder o Left h = glances o h
+  gate-leads Sender o Shut h = stops (ap barred h) (ap₂ lastAt o h)
+  gate-leads Recorder o Shut h = stops (ap barred h) (ap₂ lastAt o h)
+  gate-leads Sender o Left h = stops (ap barred h) (ap₂ lastAt o h)
+  gate-leads Recorder o Left h = glances h (ap₂ lastAt o h)
   gate-leads side o Open h = enters h (onward (g .spins))
 
   spin-leads : (n j : ℕ) → g .room ≡ j → L (Spin n) (stepAfter (roomMove (asRoom j) (To (toSpin n))) (Spin n))
@@ -161,9 +169,10 @@ module _ (g : Sight) where
   spin-leads n zero q = spins q (onward n)
 
   gate-again-leads : (side : Side) → g .side ≡ side → (e : ℕ) (d : Door) → g .door ≡ d → L (GateAgain e) (stepAfter (doorMove d side (Wait e)) (GateAgain e))
-  gate-again-leads side o e Shut h = stops-again (ap barred h)
-  gate-again-leads Sender o e Left h = stops-again (ap barred h)
-  gate-again-leads Recorder o e Left h = glances-again o h
+  gate-again-leads Sender o e Shut h = stops-again (ap barred h) (ap₂ lastAt o h)
+  gate-again-leads Recorder o e Shut h = stops-again (ap barred h) (ap₂ lastAt o h)
+  gate-again-leads Sender o e Left h = stops-again (ap barred h) (ap₂ lastAt o h)
+  gate-again-leads Recorder o e Left h = glances-again h (ap₂ lastAt o h)
   gate-again-leads side o e Open h = enters-again h
 
   wait-leads : (e op f : ℕ) (n : Nap) → (n ≡ Sleeps → g .bell ≡ e) → L (Wait e) (stepAfter (napMove n op f) (Wait e))

@@ -40,6 +40,8 @@ pub mod Sealed
 pub mod OverNone
 pub mod Told
 pub mod Sized
+pub mod Exactly
+pub mod Stops
 pub mod UntilSleep
 pub mod Drowsy
 pub mod Dreaming

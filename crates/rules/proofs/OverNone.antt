@@ -15,12 +15,9 @@ use Rattle.types.specs.declared.Step.{Step}
 use Rattle.types.specs.declared.Step.the-variants.{LastLook}
 use Rattle.types.specs.declared.Event.the-variants.{Turn, Failing, Spurious, TimeOut, Push, Pop, Close, Shutdown}
 use Rattle.types.specs.declared.Answer.the-variants.{Closed, Timeout}
-use Rattle.words.specs.Le.{leAt}
 use Rattle.layout.specs.Limits.{powerOk, slotOk, capacity}
-use Rattle.layout.specs.Header.{flagsAt, bellAt}
 use Rattle.layout.specs.Create.{created}
-use Rattle.rules.specs.Sides.{other, sleepBell}
-use Rattle.rules.specs.Looks.{roomOf, doorOf}
+use Rattle.rules.specs.Looks.{roomOf}
 use Rattle.rules.specs.Next.{nextSpec}
 use Rattle.rules.specs.Access.{valueOf}
 use Rattle.rules.specs.Turn.{turnSpec}

@@ -3,7 +3,6 @@ use mathlib.Core.Path.{_≡_, refl, sym, ap, _∙_}
 use mathlib.Core.Bool.{Bool, true, false, not, _||_}
 use Prim.Native.Nat.{ℕ, _-_}
 use native.Mathlib.Omega.{arith}
-use Rattle.types.specs.declared.Door.{Door}
 use Rattle.types.specs.declared.Step.{Step}
 use Rattle.types.specs.declared.Step.the-variants.{Wait}
 use Rattle.rules.specs.Phase.{Phase, resting, looking, copying, publishing, telling, asking, armed, poised, waits, sleeps, glancing, leaving, phase}
@@ -43,18 +42,18 @@ own g s next wakes n d p n′ k′ z′ f y = tt
 own g s next (enters h o) n d p n′ k′ z′ f y = rw (asks _ _ o) tt
 own g s next (finds-spin h) n d p n′ k′ z′ f y = tt
 own g s next (spins h o) n d p n′ k′ z′ f y = rw (asks _ _ o) tt
-own g s next (stops h) n d p n′ k′ z′ f y = tt
+own g s next (stops h u) n d p n′ k′ z′ f y = tt
 own g s next reads n d p n′ k′ z′ f y = tt
 own g s next (finds-again h) n d p n′ k′ z′ f y = tt
 own g s next (stays h) n d p n′ k′ z′ f y = λ q. rw ((f refl) .1 ∙ h) (λ c. absurd c)
 own g s next (enters-again h) n d p n′ k′ z′ f y = λ q c. rw ((f refl) .1) (y (sym ((f refl) .0) ∙ q) (rw ((f refl) .1, (f refl) .2 ∙ ap barred h) at c))
-own g s next (stops-again h) n d p n′ k′ z′ f y = tt
+own g s next (stops-again h u) n d p n′ k′ z′ f y = tt
 own g s next (falls-asleep h) n d p n′ k′ z′ f y = λ c. rw ((f refl) .1) (later d (g .room) (y (p _ refl h) (rw ((f refl) .1, (f refl) .2) at c)))
 own g s next returns n d p n′ k′ z′ f y = tt
 own g s next ends n d p n′ k′ z′ f y = tt
 own g s next dreams n d p n′ k′ z′ f y = λ c. rw ((f refl) .1) (y (rw ((f refl) .1, (f refl) .2) at c))
-own g s next (glances u h) n d p n′ k′ z′ f y = tt
-own g s next (glances-again u h) n d p n′ k′ z′ f y = tt
+own g s next (glances h u) n d p n′ k′ z′ f y = tt
+own g s next (glances-again h u) n d p n′ k′ z′ f y = tt
 own g s next times-out n d p n′ k′ z′ f y = tt
 own g s next (finds-last h) n d p n′ k′ z′ f y = tt
 own g s next (finds-none h) n d p n′ k′ z′ f y = tt
@@ -101,18 +100,18 @@ tries g false e s next wakes y = tt
 tries g false e s next (enters h o) y = absurd y
 tries g false e s next (finds-spin h) y = absurd y
 tries g false e s next (spins h o) y = absurd y
-tries g false e s next (stops h) y = absurd y
+tries g false e s next (stops h u) y = absurd y
 tries g false e s next reads y = absurd y
 tries g false e s next (finds-again h) y = absurd y
 tries g false e s next (stays h) y = absurd y
 tries g false e s next (enters-again h) y = absurd y
-tries g false e s next (stops-again h) y = absurd y
+tries g false e s next (stops-again h u) y = absurd y
 tries g false e s next (falls-asleep h) y = absurd y
 tries g false e s next returns y = absurd y
 tries g false e s next ends y = absurd y
 tries g false e s next dreams y = absurd y
-tries g false e s next (glances u h) y = absurd y
-tries g false e s next (glances-again u h) y = absurd y
+tries g false e s next (glances h u) y = absurd y
+tries g false e s next (glances-again h u) y = absurd y
 tries g false e s next times-out y = absurd y
 tries g false e s next (finds-last h) y = tt
 tries g false e s next (finds-none h) y = tt

@@ -5,7 +5,6 @@ use mathlib.Core.Logic.{_⊎_, inl, inr}
 use Prim.Native.Nat.{ℕ, _<_}
 use native.Mathlib.Omega.{arith}
 use Rattle.types.specs.declared.Side.{Side}
-use Rattle.types.specs.declared.Door.{Door}
 use Rattle.types.specs.declared.Door.the-variants.{Left}
 use Rattle.types.specs.declared.Step.{Step}
 use Rattle.types.specs.declared.Step.the-variants.{Spin, LastLook, CloseSet}
@@ -33,18 +32,18 @@ parts-on g s next wakes e = absurd (let u : _≡_ {A = ℕ} 0 1 = cc in omega ar
 parts-on g s next (enters h o) e = absurd (let u : _≡_ {A = ℕ} 0 1 = cc in omega arith)
 parts-on g s next (finds-spin h) e = absurd (let u : _≡_ {A = ℕ} 0 1 = cc in omega arith)
 parts-on g s next (spins h o) e = absurd (let u : _≡_ {A = ℕ} 0 1 = cc in omega arith)
-parts-on g s next (stops h) e = absurd (let u : _≡_ {A = ℕ} 0 1 = cc in omega arith)
+parts-on g s next (stops h u) e = absurd (let u : _≡_ {A = ℕ} 0 1 = cc in omega arith)
 parts-on g s next reads e = absurd (let u : _≡_ {A = ℕ} 0 1 = cc in omega arith)
 parts-on g s next (finds-again h) e = absurd (let u : _≡_ {A = ℕ} 0 1 = cc in omega arith)
 parts-on g s next (stays h) e = absurd (let u : _≡_ {A = ℕ} 0 1 = cc in omega arith)
 parts-on g s next (enters-again h) e = absurd (let u : _≡_ {A = ℕ} 0 1 = cc in omega arith)
-parts-on g s next (stops-again h) e = absurd (let u : _≡_ {A = ℕ} 0 1 = cc in omega arith)
+parts-on g s next (stops-again h u) e = absurd (let u : _≡_ {A = ℕ} 0 1 = cc in omega arith)
 parts-on g s next (falls-asleep h) e = absurd (let u : _≡_ {A = ℕ} 0 1 = cc in omega arith)
 parts-on g s next returns e = absurd (let u : _≡_ {A = ℕ} 0 1 = cc in omega arith)
 parts-on g s next ends e = absurd (let u : _≡_ {A = ℕ} 0 1 = cc in omega arith)
 parts-on g s next dreams e = absurd (let u : _≡_ {A = ℕ} 0 1 = cc in omega arith)
-parts-on g s next (glances u h) e = absurd (let u : _≡_ {A = ℕ} 0 1 = cc in omega arith)
-parts-on g s next (glances-again u h) e = absurd (let u : _≡_ {A = ℕ} 0 1 = cc in omega arith)
+parts-on g s next (glances h u) e = absurd (let u : _≡_ {A = ℕ} 0 1 = cc in omega arith)
+parts-on g s next (glances-again h u) e = absurd (let u : _≡_ {A = ℕ} 0 1 = cc in omega arith)
 parts-on g s next times-out e = absurd (let u : _≡_ {A = ℕ} 0 1 = cc in omega arith)
 parts-on g s next (finds-last h) e = absurd (let u : _≡_ {A = ℕ} 0 1 = cc in omega arith)
 parts-on g s next (finds-none h) e = absurd (let u : _≡_ {A = ℕ} 0 1 = cc in omega arith)
@@ -78,18 +77,18 @@ glances-left g s next wakes e = absurd (let u : _≡_ {A = ℕ} 0 1 = cc in omeg
 glances-left g s next (enters h o) e = absurd (not-last _ next o e)
 glances-left g s next (finds-spin h) e = absurd (let u : _≡_ {A = ℕ} 0 1 = cc in omega arith)
 glances-left g s next (spins h o) e = absurd (not-last _ next o e)
-glances-left g s next (stops h) e = absurd (let u : _≡_ {A = ℕ} 0 1 = cc in omega arith)
+glances-left g s next (stops h u) e = absurd (let u : _≡_ {A = ℕ} 0 1 = cc in omega arith)
 glances-left g s next reads e = absurd (let u : _≡_ {A = ℕ} 0 1 = cc in omega arith)
 glances-left g s next (finds-again h) e = absurd (let u : _≡_ {A = ℕ} 0 1 = cc in omega arith)
 glances-left g s next (stays h) e = absurd (let u : _≡_ {A = ℕ} 0 1 = cc in omega arith)
 glances-left g s next (enters-again h) e = absurd (let u : _≡_ {A = ℕ} 0 1 = cc in omega arith)
-glances-left g s next (stops-again h) e = absurd (let u : _≡_ {A = ℕ} 0 1 = cc in omega arith)
+glances-left g s next (stops-again h u) e = absurd (let u : _≡_ {A = ℕ} 0 1 = cc in omega arith)
 glances-left g s next (falls-asleep h) e = absurd (let u : _≡_ {A = ℕ} 0 1 = cc in omega arith)
 glances-left g s next returns e = absurd (let u : _≡_ {A = ℕ} 0 1 = cc in omega arith)
 glances-left g s next ends e = absurd (let u : _≡_ {A = ℕ} 0 1 = cc in omega arith)
 glances-left g s next dreams e = absurd (let u : _≡_ {A = ℕ} 0 1 = cc in omega arith)
-glances-left g s next (glances u h) e = h
-glances-left g s next (glances-again u h) e = h
+glances-left g s next (glances h u) e = h
+glances-left g s next (glances-again h u) e = h
 glances-left g s next times-out e = absurd (let u : _≡_ {A = ℕ} 0 1 = cc in omega arith)
 glances-left g s next (finds-last h) e = absurd (let u : _≡_ {A = ℕ} 0 1 = cc in omega arith)
 glances-left g s next (finds-none h) e = absurd (let u : _≡_ {A = ℕ} 0 1 = cc in omega arith)
@@ -124,18 +123,18 @@ spins-on g s next wakes f n e = absurd (let u : _≡_ {A = ℕ} 0 1 = cc in omeg
 spins-on g s next (enters h o) f n e = fewer _ next o n e
 spins-on g s next (finds-spin h) f n e = absurd (let u : _≡_ {A = ℕ} 0 1 = cc in omega arith)
 spins-on g s next (spins {n = i} h o) f n e = omega (arith, fewer _ next o n e, f i refl)
-spins-on g s next (stops h) f n e = absurd (let u : _≡_ {A = ℕ} 0 1 = cc in omega arith)
+spins-on g s next (stops h u) f n e = absurd (let u : _≡_ {A = ℕ} 0 1 = cc in omega arith)
 spins-on g s next reads f n e = absurd (let u : _≡_ {A = ℕ} 0 1 = cc in omega arith)
 spins-on g s next (finds-again h) f n e = absurd (let u : _≡_ {A = ℕ} 0 1 = cc in omega arith)
 spins-on g s next (stays h) f n e = absurd (let u : _≡_ {A = ℕ} 0 1 = cc in omega arith)
 spins-on g s next (enters-again h) f n e = absurd (let u : _≡_ {A = ℕ} 0 1 = cc in omega arith)
-spins-on g s next (stops-again h) f n e = absurd (let u : _≡_ {A = ℕ} 0 1 = cc in omega arith)
+spins-on g s next (stops-again h u) f n e = absurd (let u : _≡_ {A = ℕ} 0 1 = cc in omega arith)
 spins-on g s next (falls-asleep h) f n e = absurd (let u : _≡_ {A = ℕ} 0 1 = cc in omega arith)
 spins-on g s next returns f n e = absurd (let u : _≡_ {A = ℕ} 0 1 = cc in omega arith)
 spins-on g s next ends f n e = absurd (let u : _≡_ {A = ℕ} 0 1 = cc in omega arith)
 spins-on g s next dreams f n e = absurd (let u : _≡_ {A = ℕ} 0 1 = cc in omega arith)
-spins-on g s next (glances u h) f n e = absurd (let u : _≡_ {A = ℕ} 0 1 = cc in omega arith)
-spins-on g s next (glances-again u h) f n e = absurd (let u : _≡_ {A = ℕ} 0 1 = cc in omega arith)
+spins-on g s next (glances h u) f n e = absurd (let u : _≡_ {A = ℕ} 0 1 = cc in omega arith)
+spins-on g s next (glances-again h u) f n e = absurd (let u : _≡_ {A = ℕ} 0 1 = cc in omega arith)
 spins-on g s next times-out f n e = absurd (let u : _≡_ {A = ℕ} 0 1 = cc in omega arith)
 spins-on g s next (finds-last h) f n e = absurd (let u : _≡_ {A = ℕ} 0 1 = cc in omega arith)
 spins-on g s next (finds-none h) f n e = absurd (let u : _≡_ {A = ℕ} 0 1 = cc in omega arith)

@@ -26,7 +26,7 @@ use Rattle.layout.specs.Limits.{slotHeadBytes, powerOk, slotOk, capacity, paylo
 use Rattle.layout.specs.Header.{flagsAt, counterAt, bellAt}
 use Rattle.layout.specs.Slots.{headOf}
 use Rattle.layout.proofs.SizeLaws.{capacity-room, slot-least}
-use Rattle.rules.specs.Sides.{other, rings, sleepBell}
+use Rattle.rules.specs.Sides.{other, sleepBell}
 use Rattle.rules.specs.Looks.{roomOf, wasBlocked, doorOf, fitOf}
 use Rattle.rules.specs.Steps.{copyMove}
 use Rattle.rules.specs.Take.{stanceOf, counterAfter, stepAfter, moveAt, moveOf}

@@ -1,11 +1,10 @@
 -- How often a waiter's bell may yet be raised. Numbers and steps alone.
 use mathlib.Core.Path.{_≡_, refl, sym, ap, _∙_}
-use mathlib.Core.Bool.{Bool, true}
+use mathlib.Core.Bool.{true}
 use Prim.Native.Nat.{ℕ, zero, suc, _+_, _≤_}
 use native.Mathlib.Omega.{arith}
 use Rattle.types.specs.declared.Side.{Side}
 use Rattle.types.specs.declared.Side.the-variants.{Sender, Recorder}
-use Rattle.types.specs.declared.Door.{Door}
 use Rattle.types.specs.declared.Step.{Step}
 use Rattle.types.specs.declared.Step.the-variants.{Rest, Look, Copy, Publish, Check, Raise, Wake, Gate, Spin, Epoch, Again, GateAgain, Wait, Asleep, LastLook, CloseSet, CloseRaise, CloseWake, ShutSet, ShutRaiseNe, ShutWakeNe, ShutRaiseNf, ShutWakeNf}
 use Rattle.rules.specs.Stretch.{holdsEpochAt, holdsEpoch}
@@ -113,18 +112,18 @@ pays side g s next wakes n = omega arith
 pays side g s next (enters h o) n = rw (owing-on side _ next (g .theirs) o) (omega arith)
 pays side g s next (finds-spin h) n = omega arith
 pays side g s next (spins h o) n = rw (owing-on side _ next (g .theirs) o) (omega arith)
-pays side g s next (stops h) n = omega arith
+pays side g s next (stops h w) n = omega arith
 pays side g s next reads n = omega arith
 pays side g s next (finds-again h) n = omega arith
 pays side g s next (stays h) n = omega arith
 pays side g s next (enters-again h) n = omega arith
-pays side g s next (stops-again h) n = omega arith
+pays side g s next (stops-again h w) n = omega arith
 pays side g s next (falls-asleep h) n = omega arith
 pays side g s next returns n = omega arith
 pays side g s next ends n = omega arith
 pays side g s next dreams n = omega arith
-pays side g s next (glances w h) n = omega arith
-pays side g s next (glances-again w h) n = omega arith
+pays side g s next (glances h w) n = omega arith
+pays side g s next (glances-again h w) n = omega arith
 pays side g s next times-out n = omega arith
 pays side g s next (finds-last h) n = omega arith
 pays side g s next (finds-none h) n = omega arith
@@ -161,18 +160,18 @@ holds-on side g s next wakes u n n′ k′ more zeroed still y o = absurd (let z
 holds-on side g s next (enters h w) u n n′ k′ more zeroed still y o = absurd (let q = sym (ap holdsEpochAt (asks _ _ w)) ∙ o in let z : _≡_ {A = ℕ} 0 1 = cc in omega arith)
 holds-on side g s next (finds-spin h) u n n′ k′ more zeroed still y o = absurd (let z : _≡_ {A = ℕ} 0 1 = cc in omega arith)
 holds-on side g s next (spins h w) u n n′ k′ more zeroed still y o = absurd (let q = sym (ap holdsEpochAt (asks _ _ w)) ∙ o in let z : _≡_ {A = ℕ} 0 1 = cc in omega arith)
-holds-on side g s next (stops h) u n n′ k′ more zeroed still y o = absurd (let z : _≡_ {A = ℕ} 0 1 = cc in omega arith)
+holds-on side g s next (stops h w) u n n′ k′ more zeroed still y o = absurd (let z : _≡_ {A = ℕ} 0 1 = cc in omega arith)
 holds-on side g s next reads u n n′ k′ more zeroed still y o = rw (zeroed refl) (omega (arith, owing-small side u k′))
 holds-on side g s next (finds-again h) u n n′ k′ more zeroed still y o = absurd (let z : _≡_ {A = ℕ} 0 1 = cc in omega arith)
 holds-on side g s next (stays h) u n n′ k′ more zeroed still y o = rw ((still refl) .0, (still refl) .1) (y refl)
 holds-on side g s next (enters-again h) u n n′ k′ more zeroed still y o = rw ((still refl) .0, (still refl) .1) (y refl)
-holds-on side g s next (stops-again h) u n n′ k′ more zeroed still y o = absurd (let z : _≡_ {A = ℕ} 0 1 = cc in omega arith)
+holds-on side g s next (stops-again h w) u n n′ k′ more zeroed still y o = absurd (let z : _≡_ {A = ℕ} 0 1 = cc in omega arith)
 holds-on side g s next (falls-asleep h) u n n′ k′ more zeroed still y o = absurd (let z : _≡_ {A = ℕ} 0 1 = cc in omega arith)
 holds-on side g s next returns u n n′ k′ more zeroed still y o = absurd (let z : _≡_ {A = ℕ} 0 1 = cc in omega arith)
 holds-on side g s next ends u n n′ k′ more zeroed still y o = absurd (let z : _≡_ {A = ℕ} 0 1 = cc in omega arith)
 holds-on side g s next dreams u n n′ k′ more zeroed still y o = absurd (let z : _≡_ {A = ℕ} 0 1 = cc in omega arith)
-holds-on side g s next (glances w h) u n n′ k′ more zeroed still y o = absurd (let z : _≡_ {A = ℕ} 0 1 = cc in omega arith)
-holds-on side g s next (glances-again w h) u n n′ k′ more zeroed still y o = absurd (let z : _≡_ {A = ℕ} 0 1 = cc in omega arith)
+holds-on side g s next (glances h w) u n n′ k′ more zeroed still y o = absurd (let z : _≡_ {A = ℕ} 0 1 = cc in omega arith)
+holds-on side g s next (glances-again h w) u n n′ k′ more zeroed still y o = absurd (let z : _≡_ {A = ℕ} 0 1 = cc in omega arith)
 holds-on side g s next times-out u n n′ k′ more zeroed still y o = absurd (let z : _≡_ {A = ℕ} 0 1 = cc in omega arith)
 holds-on side g s next (finds-last h) u n n′ k′ more zeroed still y o = absurd (let z : _≡_ {A = ℕ} 0 1 = cc in omega arith)
 holds-on side g s next (finds-none h) u n n′ k′ more zeroed still y o = absurd (let z : _≡_ {A = ℕ} 0 1 = cc in omega arith)

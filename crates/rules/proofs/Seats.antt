@@ -17,7 +17,6 @@ use Rattle.types.specs.declared.Own.{Own}
 use Rattle.types.specs.declared.Party.{Party}
 use Rattle.types.specs.declared.Woke.{Woke}
 use Rattle.types.specs.declared.Mark.the-variants.{Shutdown as ShutMark}
-use Rattle.types.specs.declared.Door.{Door}
 use Rattle.types.specs.declared.Door.the-variants.{Shut, Left, Open}
 use Rattle.types.specs.declared.Step.{Step}
 use Rattle.types.specs.declared.Step.the-variants.{Rest, Look, Spin, Epoch, Asleep, LastLook}
@@ -189,18 +188,18 @@ module _ (P S v : ℕ) (on : Bool) (r : List ℕ) (p : Party) (payload : List �
   since-own side g at s next (enters h o) y = rw (asks _ _ o) tt
   since-own side g at s next (finds-spin h) y = tt
   since-own side g at s next (spins h o) y = rw (asks _ _ o) tt
-  since-own side g at s next (stops h) y = tt
+  since-own side g at s next (stops h u) y = tt
   since-own side g at s next reads y = rw (at, bell-own side (nextAt Epoch side (p .counter)) refl, rung-anew side) (epoch-read (leAt 4 r (bellAt (sleepBell side))))
   since-own side g at s next (finds-again h) y = tt
   since-own side g at s next (stays h) y = rw (bell-own side (nextAt s side (p .counter)) refl) y
   since-own side g at s next (enters-again h) y = rw (bell-own side (nextAt s side (p .counter)) refl) y
-  since-own side g at s next (stops-again h) y = tt
+  since-own side g at s next (stops-again h u) y = tt
   since-own side g at s next (sleeps h) y = tt
   since-own side g at s next returns y = tt
   since-own side g at s next ends y = tt
   since-own side g at s next dreams y = tt
-  since-own side g at s next (glances u h) y = tt
-  since-own side g at s next (glances-again u h) y = tt
+  since-own side g at s next (glances h u) y = tt
+  since-own side g at s next (glances-again h u) y = tt
   since-own side g at s next times-out y = tt
   since-own side g at s next (finds-last h) y = tt
   since-own side g at s next (finds-none h) y = tt

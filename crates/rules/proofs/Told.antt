@@ -18,9 +18,8 @@ use Rattle.types.specs.declared.Step.the-variants.{Look, Gate, LastLook}
 use Rattle.types.specs.declared.Event.the-variants.{Turn, Failing, Spurious, TimeOut, Push, Pop, Close, Shutdown}
 use Rattle.types.specs.declared.Answer.the-variants.{Closed}
 use Rattle.layout.specs.Limits.{powerOk, slotOk, capacity}
-use Rattle.layout.specs.Header.{flagsAt, bellAt}
+use Rattle.layout.specs.Header.{flagsAt}
 use Rattle.layout.specs.Create.{created}
-use Rattle.rules.specs.Sides.{other, sleepBell}
 use Rattle.rules.specs.Looks.{roomOf, doorOf}
 use Rattle.rules.specs.Steps.{lookMove, leftMove, gateMove}
 use Rattle.rules.specs.Take.{stanceOf, stepAfter, moveAt, moveOf}

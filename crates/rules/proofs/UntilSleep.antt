@@ -22,7 +22,7 @@ use Rattle.rules.specs.Next.{nextAt}
 use Rattle.rules.specs.Stretch.{inWait}
 use Rattle.rules.proofs.After.{bellBy}
 use Rattle.rules.proofs.Leads.{Sight, Onward, straight, around, Leads, idles, finds, blocks, gives-up, copies, spills, tells, stores, owes, passes, raises, wakes, enters, stops, finds-spin, spins, reads, finds-again, stays, enters-again, stops-again, returns, ends, dreams, glances, glances-again, times-out, finds-last, finds-none, closes, closes-alone, close-raises, close-wakes, shuts, shut-raises, shut-wakes, shut-raises-again, shut-wakes-again, sleeps as falls-asleep}
-use Rattle.rules.proofs.Does.{less, under}
+use Rattle.rules.proofs.Does.{less, less-one}
 use Rattle.rules.proofs.Heard.{setsNone}
 use Rattle.rules.proofs.Effects.{sets-none}
 
@@ -119,22 +119,22 @@ wait-bell side n b c (ShutWakeNe d) w = absurd (let u : _≡_ {A = ℕ} 0 1 = cc
 wait-bell side n b c (ShutRaiseNf d e) w = absurd (let u : _≡_ {A = ℕ} 0 1 = cc in omega arith)
 wait-bell side n b c (ShutWakeNf d e) w = absurd (let u : _≡_ {A = ℕ} 0 1 = cc in omega arith)
 
-below : (t : Bool) (x y u v : ℕ) → suc x ≤ u → suc y ≤ v → pick t x y ≤ less (pick t u v)
-below true x y u v h g = under x u h
-below false x y u v h g = under y v g
+below : (t : Bool) (x y u v : ℕ) → suc x ≡ u → suc y ≡ v → pick t x y ≡ less (pick t u v)
+below true x y u v h g = less-one x u h
+below false x y u v h g = less-one y v g
 
-read-fresh : (b stale : ℕ) → b < 2 ^ 32 → pick (eqb b (b % 2 ^ 32)) 3 stale ≤ 3
+read-fresh : (b stale : ℕ) → b < 2 ^ 32 → pick (eqb b (b % 2 ^ 32)) 3 stale ≡ 3
 read-fresh b stale h =
     let e : eqb b (b % 2 ^ 32) ≡ true = eq-eqb b (b % 2 ^ 32) (sym (mod-eq-of-lt h)) in
-    rw e (omega arith)
+    rw e refl
 
 -- a wait that is not failing sleeps where the bell reads the epoch, and looks again where it does not
-returned : (b a e : ℕ) → Look ≡ pick (eqb b e) Asleep Look → 6 + a ≤ less (pick (eqb b e) 1 (7 + a))
+returned : (b a e : ℕ) → Look ≡ pick (eqb b e) Asleep Look → 6 + a ≡ less (pick (eqb b e) 1 (7 + a))
 returned b a e q = by (eqb b e) q
   where
-    by : (t : Bool) → Look ≡ pick t Asleep Look → 6 + a ≤ less (pick t 1 (7 + a))
+    by : (t : Bool) → Look ≡ pick t Asleep Look → 6 + a ≡ less (pick t 1 (7 + a))
     by true q = absurd (let u : _≡_ {A = ℕ} 0 1 = cc in omega arith)
-    by false q = under (6 + a) (7 + a) (omega arith)
+    by false q = less-one (6 + a) (7 + a) (omega arith)
 
 -- it leads nowhere else
 not-naps : (s : Step) → (s ≡ Asleep → ⊥) → (s ≡ Look → ⊥) → (t : Bool) → s ≡ pick t Asleep Look → ⊥
@@ -146,15 +146,15 @@ waits-on : (n : ℕ) (t : Step) → Onward n t → inWait t ≡ true
 waits-on n t straight = refl
 waits-on n t (around m) = refl
 
-spun : (b a n : ℕ) (t : Step) → Onward n t → toSleep b a t ≤ less (5 + n)
-spun b a n t straight = omega arith
-spun b a n t (around m) = under (5 + m) (5 + suc m) (omega arith)
+spun : (b a n : ℕ) (t : Step) → Onward n t → toSleep b a t ≡ less (5 + n)
+spun b a n t straight = refl
+spun b a n t (around m) = less-one (5 + m) (5 + suc m) (omega arith)
 
 pub drowse : (g : Sight) → g .room ≡ 0 → g .bell < 2 ^ 32 → g .door ≡ Open → g .blocking ≡ true → (s next : Step) → Leads g s next → inWait s ≡ true → ((e : ℕ) → s ≡ Wait e → next ≡ pick (eqb (g .bell) e) Asleep Look)
-    → (inWait next ≡ true) × (toSleep (g .bell) (g .spins) next ≤ less (toSleep (g .bell) (g .spins) s))
+    → (inWait next ≡ true) × (toSleep (g .bell) (g .spins) next ≡ less (toSleep (g .bell) (g .spins) s))
 drowse g none l o m s next idles w f = absurd (let u : _≡_ {A = ℕ} 0 1 = cc in omega arith)
 drowse g none l o m s next (finds h) w f = absurd (omega arith)
-drowse g none l o m s next (blocks h q) w f = (refl, under (5 + g .spins) (6 + g .spins) (omega arith))
+drowse g none l o m s next (blocks h q) w f = (refl, less-one (5 + g .spins) (6 + g .spins) (omega arith))
 drowse g none l o m s next (gives-up h q) w f = absurd (let u : _≡_ {A = ℕ} 0 1 = cc in omega arith)
 drowse g none l o m s next copies w f = absurd (let u : _≡_ {A = ℕ} 0 1 = cc in omega arith)
 drowse g none l o m s next spills w f = absurd (let u : _≡_ {A = ℕ} 0 1 = cc in omega arith)
@@ -167,18 +167,18 @@ drowse g none l o m s next wakes w f = absurd (let u : _≡_ {A = ℕ} 0 1 = cc 
 drowse g none l o m s next (enters h u) w f = (waits-on _ next u, spun (g .bell) (g .spins) _ next u)
 drowse g none l o m s next (finds-spin h) w f = absurd (omega arith)
 drowse g none l o m s next (spins h u) w f = (waits-on _ next u, spun (g .bell) (g .spins) _ next u)
-drowse g none l o m s next (stops h) w f = absurd (let u : _≡_ {A = ℕ} 0 1 = cc in omega arith)
+drowse g none l o m s next (stops h u) w f = absurd (let u : _≡_ {A = ℕ} 0 1 = cc in omega arith)
 drowse g none l o m s next reads w f = (refl, read-fresh (g .bell) (9 + g .spins) l)
 drowse g none l o m s next (finds-again h) w f = absurd (omega arith)
 drowse g none l o m s next (stays {e = e} h) w f = (refl, below (eqb (g .bell) e) 2 (8 + g .spins) 3 (9 + g .spins) (omega arith) (omega arith))
 drowse g none l o m s next (enters-again {e = e} h) w f = (refl, below (eqb (g .bell) e) 1 (7 + g .spins) 2 (8 + g .spins) (omega arith) (omega arith))
-drowse g none l o m s next (stops-again h) w f = absurd (let u : _≡_ {A = ℕ} 0 1 = cc in omega arith)
-drowse g none l o m s next (falls-asleep h) w f = (refl, omega arith)
+drowse g none l o m s next (stops-again h u) w f = absurd (let u : _≡_ {A = ℕ} 0 1 = cc in omega arith)
+drowse g none l o m s next (falls-asleep {e = e} h) w f = (refl, rw (eq-eqb (g .bell) e h) refl)
 drowse g none l o m s next (returns {e = e}) w f = (refl, returned (g .bell) (g .spins) e (f e refl))
 drowse g none l o m s next (ends {e = e}) w f = absurd (not-naps next (λ q. let u : _≡_ {A = ℕ} 0 1 = cc in omega arith) (λ q. let u : _≡_ {A = ℕ} 0 1 = cc in omega arith) (eqb (g .bell) e) (f e refl))
-drowse g none l o m s next dreams w f = (refl, omega arith)
-drowse g none l o m s next (glances u h) w f = absurd (let u : _≡_ {A = ℕ} 0 1 = cc in omega arith)
-drowse g none l o m s next (glances-again u h) w f = absurd (let u : _≡_ {A = ℕ} 0 1 = cc in omega arith)
+drowse g none l o m s next dreams w f = (refl, refl)
+drowse g none l o m s next (glances h u) w f = absurd (let u : _≡_ {A = ℕ} 0 1 = cc in omega arith)
+drowse g none l o m s next (glances-again h u) w f = absurd (let u : _≡_ {A = ℕ} 0 1 = cc in omega arith)
 drowse g none l o m s next (times-out {e = e}) w f = absurd (not-naps next (λ q. let u : _≡_ {A = ℕ} 0 1 = cc in omega arith) (λ q. let u : _≡_ {A = ℕ} 0 1 = cc in omega arith) (eqb (g .bell) e) (f e refl))
 drowse g none l o m s next (finds-last h) w f = absurd (omega arith)
 drowse g none l o m s next (finds-none h) w f = absurd (let u : _≡_ {A = ℕ} 0 1 = cc in omega arith)

@@ -13,15 +13,15 @@ use Rattle.types.specs.declared.Side.the-variants.{Sender, Recorder}
 use Rattle.types.specs.declared.Fault.{Fault}
 use Rattle.types.specs.declared.Fault.the-variants.{Fine, Error}
 use Rattle.types.specs.declared.Step.{Step}
-use Rattle.types.specs.declared.Step.the-variants.{Rest, Look, Spin, Publish, Check, Wake, Asleep, CloseSet, ShutSet}
+use Rattle.types.specs.declared.Step.the-variants.{Rest, Look, Spin, Again, Publish, Check, Wake, Asleep, CloseSet, ShutSet}
 use Rattle.types.specs.declared.Stance.{Stance}
 use Rattle.types.specs.declared.Event.{Event}
 use Rattle.types.specs.declared.Event.the-variants.{Turn, Failing}
 use Rattle.types.specs.declared.Answer.the-variants.{Done, Closed, Timeout, Begun, Nothing}
 use Rattle.layout.specs.Limits.{capacity, payloadCapacity}
-use Rattle.layout.specs.Header.{counterAt}
+use Rattle.layout.specs.Header.{counterAt, bellAt}
 use Rattle.layout.specs.Create.{createAnswer, created}
-use Rattle.rules.specs.Sides.{other}
+use Rattle.rules.specs.Sides.{other, sleepBell}
 use Rattle.types.specs.declared.Party.{Party}
 use Rattle.rules.specs.Calls.{sound, at, named, pushSpec, popSpec, closeSpec, shutSpec}
 use Rattle.rules.specs.Turn.{turnSpec}
@@ -185,20 +185,35 @@ module _ (region : List ℕ) (power slot : ℕ) (notfull : Bool) (start : ℕ) w
   Ends side = (hs ms : List Happening) (n : ℕ) → AllTyped (hs ++ ms) → AllFair side (hs ++ ms) (opened (created region power slot notfull start))
       → Stopped side hs → Follow side n (reached hs) → AllOwn side ms → stopTurns side n ≤ beats ms (reached hs) → AtRest calling side n hs ms
 
+  -- and no fewer: with no room, and where none of its turns fails, one at a spin that n follow has answered when it has taken these,
+  -- 4 more, and the last look, which a shutdown spares a recorder
+  abbrev pub StopsAfter : Side → Type 0
+  StopsAfter side = (hs ms : List Happening) (n : ℕ) → AllTyped hs → (down (reached hs) || closedBit (other side) (reached hs)) ≡ true
+      → room side (capacity power) (reached hs) ≡ 0 → partyIn (reached hs) side .step ≡ Spin n → Turns side ms
+      → n + 4 + pick (down (reached hs)) 0 (lastLooks side) ≤ beats ms (reached hs)
+      → (first : List Happening) × ((rest : List Happening) × ((ms ≡ first ++ rest)
+      × ((ticks first (reached hs) ≡ n + 4 + pick (down (reached hs)) 0 (lastLooks side)) × (partyIn (reached (hs ++ first)) side .step ≡ Rest))))
+
   -- at a spin fewer follow than the record's count: T4's number is 7, or the count and 3, and 1 for a recorder
   abbrev pub SpinsWithin : Side → Type 0
   SpinsWithin side = (hs : List Happening) (n : ℕ) → AllTyped hs → partyIn (reached hs) side .step ≡ Spin n → n < partyIn (reached hs) side .own .spins
 
-  -- T9: a party alone in a blocking call with no room, nobody closed or shut down, no wait failing, is asleep within 9 turns of
-  -- its own and its spin count, and within 6 and its count of its look ..
+  -- T9: a party alone in a blocking call with no room, nobody closed or shut down, no wait failing, falls asleep: it has taken so
+  -- many turns of its own when it sleeps ..
+  abbrev pub AsleepAfter : Side → (n : ℕ) → (hs ms : List Happening) → Type 0
+  AsleepAfter side n hs ms =
+      (first : List Happening) × ((rest : List Happening) × ((ms ≡ first ++ rest) × ((ticks first (reached hs) ≡ n) × (partyIn (reached (hs ++ first)) side .step ≡ Asleep))))
+
+  -- .. which are at most 9 and its spin count: 6 and the count from its look, 9 and the count where its bell was raised after it
+  -- read the epoch
   abbrev pub FallsAsleep : Side → Type 0
-  FallsAsleep side = (hs ms : List Happening) → AllTyped hs
+  FallsAsleep side = (hs : List Happening) → AllTyped hs
       → room side (capacity power) (reached hs) ≡ 0 → down (reached hs) ≡ false → closedBit (other side) (reached hs) ≡ false
-      → partyIn (reached hs) side .blocking ≡ true → inWait (partyIn (reached hs) side .step) ≡ true → Turns side ms
-      → 9 + partyIn (reached hs) side .own .spins ≤ ticks ms (reached hs)
-      → (first : List Happening) × ((rest : List Happening) × ((ms ≡ first ++ rest)
-      × ((ticks first (reached hs) ≤ 9 + partyIn (reached hs) side .own .spins)
-      × ((partyIn (reached hs) side .step ≡ Look → ticks first (reached hs) ≤ 6 + partyIn (reached hs) side .own .spins) × (partyIn (reached (hs ++ first)) side .step ≡ Asleep)))))
+      → partyIn (reached hs) side .blocking ≡ true → inWait (partyIn (reached hs) side .step) ≡ true
+      → (n : ℕ) × ((n ≤ 9 + partyIn (reached hs) side .own .spins)
+      × ((partyIn (reached hs) side .step ≡ Look → n ≡ 6 + partyIn (reached hs) side .own .spins)
+      × (((e : ℕ) → partyIn (reached hs) side .step ≡ Again e → (leAt 4 (reached hs .region) (bellAt (sleepBell side)) ≡ e → ⊥) → n ≡ 9 + partyIn (reached hs) side .own .spins)
+      × ((ms : List Happening) → Turns side ms → n ≤ beats ms (reached hs) → AsleepAfter side n hs ms))))
 
   -- .. and asleep, its turns change nothing, and answer 253 where they are not refused
   abbrev pub Dreams : Side → Type 0
