@@ -15,13 +15,13 @@ pub struct Bench {
 }
 
 impl Bench {
-    /// Attaches the sender, then the recorder. After a refusal the recorder is not tried, and
-    /// whoever did not come in is a party not attached.
-    pub fn attach(region: &mut [u8]) -> (Answer, Self) {
-        let (mut answer, sender) = region::attach(region, Side::Sender);
+    /// Attaches the sender, then the recorder, each with so many spins. After a refusal the
+    /// recorder is not tried, and whoever did not come in is a party not attached.
+    pub fn attach(region: &mut [u8], spins: u16) -> (Answer, Self) {
+        let (mut answer, sender) = region::attach(region, Side::Sender, spins);
         let mut recorder = Party::unattached(Side::Recorder);
         if answer == Answer::Done {
-            (answer, recorder) = region::attach(region, Side::Recorder);
+            (answer, recorder) = region::attach(region, Side::Recorder, spins);
         }
         (answer, Bench { sender, recorder })
     }

@@ -1,6 +1,7 @@
 //! The queue of document 01 in plain Rust, as a second opinion and as a baseline for speed.
-//! Document 01 is read with the requests (i) to (iii) of document 02: a pop looks at a slot's
-//! header in full (C2), and the ring is looked at once more before 11 and 13 (B6, W6).
+//! Document 01 is read with the requests (i) to (v) of document 02: a pop looks at a slot's
+//! header in full (C2), the ring is looked at once more before 11 and 13 (B6, W6), rings are as
+//! large as document 000 has them, and a call spins before it reads its epoch (S).
 //!
 //! One lent region of bytes, two parties, and turns that make at most one shared access each.
 //! The rules stand in `header`, `region`, `party`, `turn` and `bench`; the script program and
@@ -29,6 +30,8 @@
 //!   counts from the turn that sets its bit.
 //! * The last look (B6, W6) goes by the counters alone: flags that were set meanwhile are not
 //!   seen there. A sender that finds the recorder closed answers 11 at once, room or not.
+//! * A spin count above 1,000 in a party's record is 20, as sizes outside the limits are. How many
+//!   spins are left stands in the step, and is not held to the record's count.
 
 #![forbid(unsafe_code)]
 

@@ -42,6 +42,16 @@ impl Side {
         }
     }
 
+    /// Where a call with no room goes on that has so many spins before it: to the next of them,
+    /// or to its epoch. The epoch is read after the last one, so that it is not old by then.
+    pub fn after_spins(self, due: u16) -> Step {
+        match (due.checked_sub(1), self) {
+            (Some(left), _) => Step::Spin { left },
+            (None, Side::Sender) => Step::B2,
+            (None, Side::Recorder) => Step::W2,
+        }
+    }
+
     pub(crate) fn attached_flag(self) -> u32 {
         match self {
             Side::Sender => Header::SENDER_ATTACHED,
@@ -92,7 +102,8 @@ pub enum Cause {
 }
 
 /// The step a party stands at, with what the step carries. B6 and W6 are the last look: the
-/// call's time is over or, for a pop, the sender has closed.
+/// call's time is over or, for a pop, the sender has closed. A spin, between B1 and B2 or W1 and
+/// W2, loads the other side's counter, and `left` more follow it.
 #[derive(Clone, Copy, Debug, PartialEq, Eq, Hash)]
 pub enum Step {
     Rest,
@@ -121,6 +132,7 @@ pub enum Step {
     W4 { epoch: u32 },
     W5 { epoch: u32 },
     W6 { timed_out: bool },
+    Spin { left: u16 },
     Close(CloseTurn),
     Shut { turn: ShutTurn, cause: Cause },
 }
@@ -135,6 +147,8 @@ pub struct Party {
     pub power: u8,
     pub slot_size: u32,
     pub not_full: bool,
+    /// How often the other side's counter is loaded before the epoch, as attach was told.
+    pub spins: u16,
     /// Whether the party's own close has set its bit.
     pub closed: bool,
     /// The own counter: the sender's head, the recorder's tail.
@@ -157,6 +171,7 @@ impl Party {
             power: 0,
             slot_size: 0,
             not_full: false,
+            spins: 0,
             closed: false,
             count: 0,
             blocking: false,
@@ -184,6 +199,7 @@ impl Party {
             && self.side == side
             && region::power_is_allowed(self.power)
             && region::slot_size_is_allowed(self.slot_size)
+            && region::spins_are_allowed(self.spins)
             && (side == Side::Recorder || self.length <= self.payload_capacity())
     }
 

@@ -10,6 +10,9 @@ pub const MOST_POWER: u8 = 30;
 /// The largest slot size of the house limits, which go from 8 in steps of 8.
 pub const MOST_SLOT_SIZE: u32 = 65_536;
 
+/// The largest spin count of the house limits, which go from 0.
+pub const MOST_SPINS: u16 = 1000;
+
 #[inline]
 pub fn power_is_allowed(power: u8) -> bool {
     (1..=MOST_POWER).contains(&power)
@@ -18,6 +21,11 @@ pub fn power_is_allowed(power: u8) -> bool {
 #[inline]
 pub fn slot_size_is_allowed(slot_size: u32) -> bool {
     (8..=MOST_SLOT_SIZE).contains(&slot_size) && slot_size.is_multiple_of(8)
+}
+
+#[inline]
+pub fn spins_are_allowed(spins: u16) -> bool {
+    spins <= MOST_SPINS
 }
 
 /// The region's length for sizes within the limits: less than 2^47, so a usize of 64 bits holds it.
@@ -75,16 +83,20 @@ pub fn create(region: &mut [u8], power: u8, slot_size: u32, not_full: bool, star
     }
 }
 
-/// Checks the region and enters it as the party of one side. A refused attach changes nothing
-/// and gives back the record of a party not attached.
-pub fn attach(region: &mut [u8], side: Side) -> (Answer, Party) {
-    match enter(region, side) {
+/// Checks the region and enters it as the party of one side, which spins so many times before it
+/// sleeps. A refused attach changes nothing and gives back the record of a party not attached.
+pub fn attach(region: &mut [u8], side: Side, spins: u16) -> (Answer, Party) {
+    match enter(region, side, spins) {
         Ok(party) => (Answer::Done, party),
         Err(answer) => (answer, Party::unattached(side)),
     }
 }
 
-fn enter(region: &mut [u8], side: Side) -> Result<Party, Answer> {
+fn enter(region: &mut [u8], side: Side, spins: u16) -> Result<Party, Answer> {
+    // Nothing of the region is looked at for a call that is bad by itself.
+    if !spins_are_allowed(spins) {
+        return Err(Answer::BadCall);
+    }
     let length = region.len() as u64;
     let mut header = Header::of(region).ok_or(Answer::InvalidLayout)?;
     if header.magic() != Header::MAGIC {
@@ -133,6 +145,7 @@ fn enter(region: &mut [u8], side: Side) -> Result<Party, Answer> {
         power,
         slot_size,
         not_full: flags & Header::NOT_FULL_ON != 0,
+        spins,
         closed: false,
         count: match side {
             Side::Sender => header.head(),

@@ -2,7 +2,8 @@
 //! switch of rules.
 //!
 //! A trait's own bodies are the mended steps. A published rule takes the place of the few
-//! bodies that it words differently (`published`), and all else stays shared. The rules are
+//! bodies that it words differently (`published`), and all else stays shared. The ways to
+//! a spin and from it are bodies too, which tests put wrong to see that it shows. The rules are
 //! chosen when the turn is compiled, so the mended turn pays nothing for the choice.
 
 use crate::answer::{Answer, Bell};
@@ -43,6 +44,18 @@ pub trait Rules {
     #[inline]
     fn p6(party: &mut Party, failure: Option<u16>) -> Taken {
         party.last_wake(Bell::Ne, Wake::ONE, failure, Answer::Done)
+    }
+
+    /// B1 and W1 have found the door open.
+    #[inline]
+    fn after_gate(party: &Party) -> Step {
+        party.side.after_spins(party.spins)
+    }
+
+    /// A spin has found no room, and so many more are to follow.
+    #[inline]
+    fn after_spin(party: &Party, left: u16) -> Step {
+        party.side.after_spins(left)
     }
 
     #[inline]

@@ -171,7 +171,8 @@ impl Player {
     pub fn new() -> Self {
         let mut region = [0; REGION];
         let created = region::create(&mut region, POWER, SLOT_SIZE, true, 0);
-        let (attached, bench) = Bench::attach(&mut region);
+        // A script has no place for a spin count, so its parties have none.
+        let (attached, bench) = Bench::attach(&mut region, 0);
         debug_assert_eq!((created, attached), (Answer::Done, Answer::Done));
         Player {
             region,

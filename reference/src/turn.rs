@@ -77,7 +77,12 @@ impl Party {
                 self.goes_on(Step::P6)
             }
             Step::P6 => R::p6(self, failure),
-            Step::B1 => self.look::<R>(&header, Step::B2),
+            Step::B1 => self.look::<R>(&header, R::after_gate(self)),
+            Step::Spin { left } => match region::fill(self.count, header.tail(), self.power) {
+                Fill::Corrupt => self.corruption(),
+                Fill::Full => self.goes_on(R::after_spin(self, left)),
+                Fill::Empty | Fill::Between => self.goes_on(Step::P2),
+            },
             Step::B2 => {
                 let epoch = header.bell(Bell::Nf);
                 self.goes_on(Step::B3 { epoch })
@@ -146,7 +151,12 @@ impl Party {
                 self.goes_on(Step::C6 { length })
             }
             Step::C6 { length } => R::c6(self, failure, length),
-            Step::W1 => self.look::<R>(&header, Step::W2),
+            Step::W1 => self.look::<R>(&header, R::after_gate(self)),
+            Step::Spin { left } => match region::fill(header.head(), self.count, self.power) {
+                Fill::Corrupt => self.corruption(),
+                Fill::Empty => self.goes_on(R::after_spin(self, left)),
+                Fill::Between | Fill::Full => self.goes_on(Step::C2),
+            },
             Step::W2 => {
                 let epoch = header.bell(Bell::Ne);
                 self.goes_on(Step::W3 { epoch })

@@ -161,6 +161,7 @@ pub fn step(party: &Party) -> String {
         Step::W4 { .. } => "W4",
         Step::W5 { .. } => "W5",
         Step::W6 { .. } => "W6",
+        Step::Spin { .. } => "S",
         Step::Close(turn) => return close_step(party.side, turn),
         Step::Shut { turn, cause } => return shut_step(turn, cause),
     };

@@ -59,7 +59,7 @@ fn every_answer_and_every_step_is_reached() {
     assert_eq!(answers, all);
     for seat in [8, 16] {
         let steps: BTreeSet<u8> = played.iter().map(|(.., report)| report[seat]).collect();
-        assert_eq!(steps, (0..=21).collect(), "seat at {seat}");
+        assert_eq!(steps, (0..=22).collect(), "seat at {seat}");
     }
 }
 
@@ -101,7 +101,7 @@ fn what_is_refused_changes_nothing() {
                 assert_eq!(region_sum(before), region_sum(after), "{record:?} {came:?}");
             }
         }
-        if nothing && !matches!(record.ask, Ask::Attach(_)) {
+        if nothing && !matches!(record.ask, Ask::Attach { .. }) {
             assert_eq!(parties(before), parties(after), "{record:?} {came:?}");
         }
     }
@@ -109,180 +109,25 @@ fn what_is_refused_changes_nothing() {
 }
 
 /// A sweep tries every value: a field that is never checked takes all of them, a reserved byte
-/// zero alone, and the flags any set of their bits with 0 and without the own attach bit.
+/// zero alone, and the flags any set of their bits with 0 and without the own attach bit. With too
+/// many spins none is taken.
 #[test]
 fn sweeps_accept_what_document_01_accepts() {
     let mut sweeps = 0;
     for (record, came, _) in played() {
-        let Ask::Sweep { at, .. } = record.ask else {
+        let Ask::Sweep { at, spins, .. } = record.ask else {
             continue;
         };
         sweeps += 1;
         let expected = match at {
+            _ if spins > 1000 => 0,
             0x048 => 32,
             0x050..0x05C | 0x080..0x088 | 0x0C0..0x0C8 | 0x100..0x104 | 0x140..0x144 => 256,
             _ => 1,
         };
         assert_eq!(came.accepted, expected, "byte {at:#X}");
     }
-    assert_eq!(sweeps, 2 * 384);
-}
-
-/// What a flipped bit of the header of a note of three bytes with tag 1 gives, payload capacity
-/// 8: the other length or tag, or 8. Of slot flags and zero word flag 0 alone is accepted.
-fn flipped(bit: u32) -> Answer {
-    let (length, tag) = match bit {
-        0..16 => (3 ^ 1 << bit, 1),
-        16..32 => (3, 1 ^ 1 << (bit - 16)),
-        32 => (3, 1),
-        _ => return Answer::CorruptSlot,
-    };
-    match length {
-        0..=8 => Answer::Delivered { tag, length },
-        _ => Answer::CorruptSlot,
-    }
-}
-
-#[test]
-fn every_bit_of_a_slot_header_is_flipped_and_has_its_answer() {
-    let cases = list();
-    for bit in 0..64 {
-        let name = format!("C2: bit {bit} of a slot's header is flipped");
-        let case = cases.iter().find(|case| case.name == name).expect(&name);
-        let mut stage = Stage::new();
-        let ended: Vec<Answer> = case
-            .records
-            .iter()
-            .filter_map(|&record| {
-                let came = stage.play(record);
-                let turn = record.ask == Ask::Turn(Side::Recorder);
-                (turn && came.answer.number() < 253).then_some(came.answer)
-            })
-            .collect();
-        let short = match flipped(bit) {
-            Answer::Delivered { length, .. } => Answer::OutputTooSmall { length },
-            other => other,
-        };
-        assert_eq!(ended, [short, flipped(bit)], "{name}");
-    }
-}
-
-/// What the turns of a case that are no GoesOn answer, with their sides. What is refused with 253
-/// is left out.
-fn ended(name: &str) -> Vec<(Side, Answer)> {
-    let cases = list();
-    let case = cases.iter().find(|case| case.name == name).expect(name);
-    let mut stage = Stage::new();
-    let mut ended = Vec::new();
-    for &record in &case.records {
-        let answer = stage.play(record).answer;
-        let turn = matches!(record.ask, Ask::Turn(_) | Ask::Failing(..));
-        if turn && answer.number() < 253 {
-            ended.push((record.ask.actor().expect("a turn is a party's"), answer));
-        }
-    }
-    ended
-}
-
-/// The cases of the last look are what their names say.
-#[test]
-fn the_last_looks_have_their_answers() {
-    use Side::{Recorder, Sender};
-    let note = |tag, length| (Recorder, Answer::Delivered { tag, length });
-    let done = (Sender, Answer::Done);
-    let timeout = |side| (side, Answer::Timeout);
-    let corrupt = |side| (side, Answer::CorruptIndices);
-    let closed = (Recorder, Answer::Closed);
-    for place in ["W1", "W4"] {
-        let name = format!("{place} and W6: the last note, then the close; 11 comes after it");
-        assert_eq!(ended(&name), [done, done, note(1, 3), closed], "{name}");
-    }
-    let expected: [(&str, &[(Side, Answer)]); 11] = [
-        (
-            "A time-out of the sender: what came meanwhile",
-            &[done, done, done, note(1, 3)],
-        ),
-        (
-            "A time-out of the recorder: what came meanwhile",
-            &[note(3, 4), done],
-        ),
-        (
-            "Error 110 of the sender: what came meanwhile",
-            &[done, done, note(1, 3), done],
-        ),
-        (
-            "Error 110 of the recorder: what came meanwhile",
-            &[done, note(3, 4)],
-        ),
-        (
-            "Last look of the sender over all flags: 13 and not 12",
-            &[done, done, timeout(Sender)],
-        ),
-        (
-            "Last look of the recorder over all flags: 13 and not 12",
-            &[timeout(Recorder)],
-        ),
-        (
-            "W6 after a shutdown: 11 and not 12, and a note is delivered",
-            &[closed, done, note(1, 3)],
-        ),
-        (
-            "Answer 7 at B6 after a time-out, failed wakes ignored",
-            &[done, done, corrupt(Sender)],
-        ),
-        (
-            "Answer 7 at W6 after a time-out, failed wakes ignored",
-            &[corrupt(Recorder)],
-        ),
-        (
-            "Answer 7 at W6 after a close, 11 is not given",
-            &[done, corrupt(Recorder)],
-        ),
-        (
-            "Close recorder: the other wakes and answers 11",
-            &[
-                done,
-                done,
-                (Recorder, Answer::Done),
-                (Sender, Answer::Closed),
-                (Recorder, Answer::Done),
-                (Sender, Answer::Shutdown),
-            ],
-        ),
-    ];
-    for (name, answers) in expected {
-        assert_eq!(ended(name), answers, "{name}");
-    }
-}
-
-/// The largest note goes through the largest slot, and no total or product is cut to 32 bits.
-#[test]
-fn sizes_at_the_limits_have_their_answers() {
-    let (tag, length) = (u16::MAX, 65_528);
-    let through = [
-        (Side::Sender, Answer::Done),
-        (Side::Sender, Answer::Full),
-        (Side::Recorder, Answer::Delivered { tag, length }),
-    ];
-    assert_eq!(ended("Sizes: power 1, slot 65536"), through);
-
-    let mut stage = Stage::new();
-    let mut refused = [0, 0];
-    for case in list()
-        .iter()
-        .filter(|case| case.name.ends_with("in 32 bits"))
-    {
-        for &record in &case.records {
-            let answer = stage.play(record).answer;
-            match record.region {
-                384 if answer == Answer::InvalidLayout => refused[0] += 1,
-                384 if answer == Answer::BadCall => refused[1] += 1,
-                384 => assert_eq!(answer, Answer::Done, "{record:?}"),
-                _ => {}
-            }
-        }
-    }
-    assert_eq!(refused, [9, 6]);
+    assert_eq!(sweeps, 2 * 384 + 8);
 }
 
 /// Nothing is left of the cases before it, once its first record has seated a sender and its
@@ -303,13 +148,14 @@ fn each_case_stands_alone() {
     assert_eq!(at, whole.len());
 }
 
+/// Both files lie in the tree. A sixth of the report is the two cases of 1,000 spins.
 #[test]
 fn files_are_whole_records_and_small() {
     let cases = list();
     let records: usize = cases.iter().map(|case| case.records.len()).sum();
     assert_eq!(script(&cases).len(), records * RECORD);
     assert_eq!(whole().len(), records * REPORT);
-    assert!(whole().len() < 310_000);
+    assert!(whole().len() < 400_000);
 }
 
 #[test]

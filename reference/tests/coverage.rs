@@ -2,6 +2,8 @@
 
 use std::collections::HashSet;
 
+use reference::cases::record::Ask;
+use reference::cases::stage::Stage;
 use reference::coverage::event::Event;
 use reference::coverage::reach::reach;
 use reference::coverage::strays::Strays;
@@ -9,7 +11,7 @@ use reference::coverage::way::Place;
 use reference::coverage::Coverage;
 use reference::random::Generator;
 use reference::script::{Player, Record, RECORD};
-use reference::Side;
+use reference::{cases, Answer, Side};
 
 fn play(coverage: &mut Coverage, script: impl IntoIterator<Item = [u8; RECORD]>) {
     let mut player = Player::new();
@@ -33,7 +35,8 @@ fn gaps(coverage: &Coverage, of: &str) -> usize {
 }
 
 /// Document 01 has 6 + 5 steps of a call, two of no turn, 3 of a close and 5 of a shutdown for
-/// each side, and request (iii) a last look; whoever asks may ask for anything at any of them.
+/// each side, and request (iii) a last look; whoever asks may ask for anything at any of them. The
+/// spin of request (v) is not among them: the script program's parties have none.
 #[test]
 fn every_step_meets_every_event() {
     let reach = reach();
@@ -46,6 +49,35 @@ fn every_step_meets_every_event() {
         .iter()
         .flat_map(|&place| Event::ALL.map(|event| (place, event)));
     assert_eq!(pairs, all.collect());
+}
+
+/// No script plays a way of a spin, and the cases play each of them, and no other.
+#[test]
+fn the_ways_of_a_spin_are_the_cases() {
+    let sides = [Side::Sender, Side::Recorder];
+    let expected: HashSet<(Place, Place)> = sides.into_iter().flat_map(Place::of_spins).collect();
+    let spins: HashSet<Place> = expected
+        .iter()
+        .flat_map(|&(from, to)| [from, to])
+        .filter(|place| place.name() == "S")
+        .collect();
+    assert_eq!(spins.len(), 2);
+    assert!(reach().ways.iter().all(|way| !spins.contains(&way.from)));
+
+    let mut stage = Stage::new();
+    let mut found = HashSet::new();
+    for record in cases::list().into_iter().flat_map(|case| case.records) {
+        let before = stage.bench;
+        let answer = stage.play(record).answer;
+        let (Ask::Turn(side) | Ask::Failing(side, _), Answer::GoesOn) = (record.ask, answer) else {
+            continue;
+        };
+        let way = [before, stage.bench].map(|bench| Place::of(bench.party(side)));
+        if way.iter().any(|place| spins.contains(place)) {
+            found.insert((way[0], way[1]));
+        }
+    }
+    assert_eq!(found, expected);
 }
 
 /// The script program creates and attaches by itself, its counters and slots are sound and

@@ -13,10 +13,19 @@ use reference::rules::Mended;
 use reference::{Answer, Side, Step};
 
 const SIDES: [Side; 2] = [Side::Sender, Side::Recorder];
-const RINGS: [(u8, bool); 4] = [(1, true), (1, false), (2, true), (2, false)];
+/// Power, not-full option and spin count.
+const RINGS: [(u8, bool, u16); 7] = [
+    (1, true, 0),
+    (1, false, 0),
+    (2, true, 0),
+    (2, false, 0),
+    (1, true, 1),
+    (1, false, 1),
+    (1, true, 2),
+];
 
-fn mended(power: u8, not_full: bool) -> Machine {
-    Machine::new(Turns::by::<Mended>(), power, not_full)
+fn mended(power: u8, not_full: bool, spins: u16) -> Machine {
+    Machine::spinning(Turns::by::<Mended>(), power, not_full, spins)
 }
 
 fn walk(menu: Menu, claims: &[Claim]) -> Walk<'_> {
@@ -117,8 +126,8 @@ fn a_time_out_is_told_over_room() {
 
 #[test]
 fn the_mended_rules_lose_nothing() {
-    for (power, not_full) in RINGS {
-        let mut machine = mended(power, not_full);
+    for (power, not_full, spins) in RINGS {
+        let mut machine = mended(power, not_full, spins);
         let t1 = [Claim::Order, Claim::Count, Claim::Carries];
         let explored = walk(Menu::ALL, &t1).from_start(&mut machine);
         assert_eq!(explored.broken, None);
@@ -141,8 +150,8 @@ fn the_mended_rules_lose_nothing() {
 #[test]
 fn a_state_and_its_normal_form_go_on_alike() {
     let mut dice = Dice::new(5);
-    for (power, not_full) in RINGS {
-        let mut machine = mended(power, not_full);
+    for (power, not_full, spins) in RINGS {
+        let mut machine = mended(power, not_full, spins);
         let found: HashSet<State> = states(&mut machine, Menu::ALL).into_iter().collect();
         let mut state = machine.start();
         for _ in 0..4000 {
@@ -171,8 +180,8 @@ fn a_state_and_its_normal_form_go_on_alike() {
     }
 }
 
-/// T2's and T4's bounds are kept. T2's is reached where all slots are room and the party rings;
-/// T4's where both sides ring.
+/// T2's and T4's bounds are kept, for few spins as for none. T2's is reached where all slots are
+/// room and the party rings; T4's where both sides ring.
 fn bounds(mut machine: Machine, side: Side, menu: Menu) {
     let not_full = machine.start().bench.sender.not_full;
     let found = states(&mut machine, menu);
@@ -200,13 +209,13 @@ fn bounds(mut machine: Machine, side: Side, menu: Menu) {
 
 #[test]
 fn the_bounds_are_kept_with_time_outs_and_without() {
-    for (power, not_full) in RINGS {
+    for (power, not_full, spins) in RINGS {
         for side in SIDES {
             let menu = Menu::fair(side);
-            bounds(mended(power, not_full), side, menu);
+            bounds(mended(power, not_full, spins), side, menu);
             let time_outs = false;
             let menu = Menu { time_outs, ..menu };
-            bounds(mended(power, not_full), side, menu);
+            bounds(mended(power, not_full, spins), side, menu);
         }
     }
 }
@@ -219,7 +228,7 @@ fn the_bounds_are_kept_without_premises() {
         for side in SIDES {
             let narrow = Machine::new(Turns::by::<NarrowBell<1>>(), power, true);
             bounds(narrow, side, Menu::ALL);
-            bounds(mended(power, true), side, Menu::ALL);
+            bounds(mended(power, true, 0), side, Menu::ALL);
         }
     }
 }
@@ -227,10 +236,10 @@ fn the_bounds_are_kept_without_premises() {
 /// T9's numbers, from any step of a wait and from the look, are reached in states that time-outs
 /// and failing waits lead to; with not-full off no push waits.
 #[test]
-fn whoever_has_no_room_sleeps_within_nine_turns() {
-    for (power, not_full) in RINGS {
+fn whoever_has_no_room_sleeps_within_nine_turns_and_its_spins() {
+    for (power, not_full, spins) in RINGS {
         for side in SIDES {
-            let mut machine = mended(power, not_full);
+            let mut machine = mended(power, not_full, spins);
             let found = states(&mut machine, Menu::ALL);
             let mut most = |from| to_sleep(&mut machine, &found, side, from).turns;
             let numbers = [
@@ -238,7 +247,7 @@ fn whoever_has_no_room_sleeps_within_nine_turns() {
                 most(|step| matches!(step, Step::P1 | Step::C1)),
             ];
             let expected = match not_full || side == Side::Recorder {
-                true => [Some(9), Some(6)],
+                true => [9, 6].map(|turns| Some(turns + u32::from(spins))),
                 false => [Some(0), Some(0)],
             };
             assert_eq!(numbers, expected, "power {power}, {side:?}");
@@ -249,7 +258,7 @@ fn whoever_has_no_room_sleeps_within_nine_turns() {
 /// Every way out of the last look is walked: a copy, 13, and 11 for the recorder.
 #[test]
 fn the_last_look_leads_to_a_copy_or_to_the_end() {
-    let mut machine = mended(1, true);
+    let mut machine = mended(1, true, 0);
     let mut found = HashSet::new();
     for state in states(&mut machine, Menu::ALL) {
         for side in SIDES {
@@ -274,7 +283,7 @@ fn the_last_look_leads_to_a_copy_or_to_the_end() {
 /// A party that would look again without end has no bound, and the count says so.
 #[test]
 fn a_count_without_end_is_told() {
-    let mut machine = mended(1, true);
+    let mut machine = mended(1, true, 0);
     let start = machine.start();
     let (looking, _) = machine.play(&start, Event::Pop { blocking: true });
     let stretch = Stretch {

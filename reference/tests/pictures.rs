@@ -205,20 +205,50 @@ fn walked() -> (HashSet<Way>, Vec<Stand>) {
     (found, stands)
 }
 
-/// What the script program's region is not.
-const SPOILS: [fn(&mut Party, &mut [u8]); 3] = [not_full_off, counters_corrupt, slot_too_long];
+/// What the script program's region and parties are not. A spin is come to by a spoil alone, so there
+/// is one for room and one for none too.
+const SPOILS: [fn(&mut Party, &mut [u8]); 6] = [
+    not_full_off,
+    counters_corrupt,
+    slot_too_long,
+    one_spin,
+    some_room,
+    no_room,
+];
 
 fn not_full_off(party: &mut Party, _region: &mut [u8]) {
     party.not_full = false;
 }
 
-fn counters_corrupt(party: &mut Party, region: &mut [u8]) {
-    let more = party.capacity() + 1;
+/// Puts the other's counter where the party sees so many notes in the ring.
+fn used(party: &mut Party, region: &mut [u8], notes: u64) {
     let (at, other) = match party.side {
-        Side::Sender => (Header::AT_TAIL, party.count.wrapping_sub(more)),
-        Side::Recorder => (Header::AT_HEAD, party.count.wrapping_add(more)),
+        Side::Sender => (Header::AT_TAIL, party.count.wrapping_sub(notes)),
+        Side::Recorder => (Header::AT_HEAD, party.count.wrapping_add(notes)),
     };
     region[at..at + 8].copy_from_slice(&other.to_le_bytes());
+}
+
+fn counters_corrupt(party: &mut Party, region: &mut [u8]) {
+    used(party, region, party.capacity() + 1);
+}
+
+/// And nobody has left, so that the gate leads to the spin.
+fn one_spin(party: &mut Party, region: &mut [u8]) {
+    party.spins = 1;
+    region[Header::AT_FLAGS] = 0x47;
+}
+
+fn some_room(party: &mut Party, region: &mut [u8]) {
+    used(party, region, 1);
+}
+
+fn no_room(party: &mut Party, region: &mut [u8]) {
+    let notes = match party.side {
+        Side::Sender => party.capacity(),
+        Side::Recorder => 0,
+    };
+    used(party, region, notes);
 }
 
 fn slot_too_long(party: &mut Party, region: &mut [u8]) {

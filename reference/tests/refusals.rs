@@ -55,10 +55,13 @@ fn spoilt_records() {
             |party| party.slot_size = 0,
             |party| party.slot_size = 12,
             |party| party.slot_size = 65_544,
+            |party| party.spins = 1001,
+            |party| party.spins = u16::MAX,
         ];
         for spoil in spoil {
             // Before 253, for parties at rest and asleep, and before 11.
-            for step in [Step::Rest, Step::Asleep, side.first_step()] {
+            let spin = Step::Spin { left: 2 };
+            for step in [Step::Rest, Step::Asleep, side.first_step(), spin] {
                 for closed in [false, true] {
                     let mut party = Party {
                         step,

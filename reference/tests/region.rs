@@ -96,7 +96,7 @@ fn attach_sets_its_bit_and_copies_its_counter() {
     // Pids and error code are never read, and the counters' difference is not looked at.
     region[0x50..0x5C].fill(0xFF);
     let before = region.clone();
-    let (answer, sender) = attach(&mut region, Side::Sender);
+    let (answer, sender) = attach(&mut region, Side::Sender, 0);
     assert_eq!(answer, Answer::Done);
     assert_eq!(
         (
@@ -107,13 +107,13 @@ fn attach_sets_its_bit_and_copies_its_counter() {
         ),
         (9, 2, 32, true)
     );
-    let (answer, recorder) = attach(&mut region, Side::Recorder);
+    let (answer, recorder) = attach(&mut region, Side::Recorder, 0);
     assert_eq!((answer, recorder.count), (Answer::Done, 200));
     let mut expected = before;
     expected[0x48] = 0x47;
     assert_eq!(region, expected);
     for side in [Side::Sender, Side::Recorder] {
-        let refused = attach(&mut region, side);
+        let refused = attach(&mut region, side, 0);
         assert_eq!(refused, (Answer::AlreadyAttached, Party::unattached(side)));
     }
     assert_eq!(region, expected);
@@ -152,7 +152,7 @@ fn attach_checks_in_order() {
     for &(at, bytes, answer) in spoil {
         region[at..at + bytes.len()].copy_from_slice(bytes);
         let before = region.clone();
-        let refused = attach(&mut region, Side::Sender);
+        let refused = attach(&mut region, Side::Sender, 0);
         assert_eq!(
             refused,
             (answer, Party::unattached(Side::Sender)),
@@ -160,7 +160,7 @@ fn attach_checks_in_order() {
         );
         assert_eq!(region, before);
     }
-    let refused = attach(&mut region[..383], Side::Sender);
+    let refused = attach(&mut region[..383], Side::Sender, 0);
     assert_eq!(refused.0, Answer::InvalidLayout);
 }
 
@@ -182,7 +182,7 @@ fn every_reserved_byte_and_flag_is_looked_at() {
             _ => Answer::Done,
         };
         assert_eq!(
-            attach(&mut spoilt, Side::Recorder).0,
+            attach(&mut spoilt, Side::Recorder, 0).0,
             expected,
             "at {at:#x}"
         );
@@ -190,11 +190,17 @@ fn every_reserved_byte_and_flag_is_looked_at() {
     for at in 0x39..0x40 {
         let mut spoilt = region.clone();
         spoilt[at] = 1;
-        assert_eq!(attach(&mut spoilt, Side::Sender).0, Answer::InvalidLayout);
+        assert_eq!(
+            attach(&mut spoilt, Side::Sender, 0).0,
+            Answer::InvalidLayout
+        );
     }
     // Flags 0x80 alone: the reserved bit is seen before bit 0 is missed.
     region[0x48] = 0x80;
-    assert_eq!(attach(&mut region, Side::Sender).0, Answer::InvalidLayout);
+    assert_eq!(
+        attach(&mut region, Side::Sender, 0).0,
+        Answer::InvalidLayout
+    );
 }
 
 /// Ring bytes near 2^64 are refused and do not overflow the sum with the header.
@@ -204,7 +210,10 @@ fn ring_bytes_do_not_wrap() {
     create(&mut region, 2, 32, true, 0);
     for ring_bytes in [0, 127, u64::MAX - 383, u64::MAX - 255, u64::MAX] {
         region[0x20..0x28].copy_from_slice(&ring_bytes.to_le_bytes());
-        assert_eq!(attach(&mut region, Side::Sender).0, Answer::InvalidLayout);
+        assert_eq!(
+            attach(&mut region, Side::Sender, 0).0,
+            Answer::InvalidLayout
+        );
     }
 }
 

@@ -83,7 +83,7 @@ impl Case {
             payload: 0,
             buffer: 0,
         };
-        case.asks(SIDES.map(Ask::Attach))
+        case.asks(SIDES.map(Ask::attach))
             .lend(Part::Region, Case::PATTERNED)
             .pattern(0)
             .lend(Part::Region, 0)
@@ -100,12 +100,17 @@ impl Case {
         })
     }
 
-    /// A fresh region with both parties attached.
+    /// A fresh region with both parties attached, with no spins.
     pub fn on(name: impl Into<String>, ring: Ring) -> Self {
+        Case::spinning(name, ring, 0)
+    }
+
+    /// The same with so many spins of either.
+    pub fn spinning(name: impl Into<String>, ring: Ring, spins: u16) -> Self {
         Case::new(name)
             .lend(Part::Region, ring.total())
             .ask(ring.create())
-            .asks(SIDES.map(Ask::Attach))
+            .asks(SIDES.map(|side| Ask::Attach { side, spins }))
     }
 
     /// From now on so many bytes are lent.

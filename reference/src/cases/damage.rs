@@ -24,7 +24,7 @@ pub fn list() -> Vec<Case> {
     cases
 }
 
-fn at_other(side: Side) -> usize {
+pub(super) fn at_other(side: Side) -> usize {
     match side {
         Sender => Header::AT_TAIL,
         Recorder => Header::AT_HEAD,
@@ -32,7 +32,7 @@ fn at_other(side: Side) -> usize {
 }
 
 /// The other's counter where used is 3, in a ring that the side can do nothing with.
-fn too_far(side: Side) -> u64 {
+pub(super) fn too_far(side: Side) -> u64 {
     match side {
         // Head is 2 there.
         Sender => u64::MAX,

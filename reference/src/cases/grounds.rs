@@ -4,7 +4,7 @@ use crate::cases::case::{Case, Ring, SIDES};
 use crate::cases::record::{Ask, Part, Terms};
 use crate::header::Header;
 use crate::party::Side;
-use crate::region::{MOST_POWER, MOST_SLOT_SIZE};
+use crate::region::{MOST_POWER, MOST_SLOT_SIZE, MOST_SPINS};
 use Side::{Recorder, Sender};
 
 pub fn list() -> Vec<Case> {
@@ -25,7 +25,7 @@ pub fn list() -> Vec<Case> {
 
 /// Where a party stands when it is asked.
 #[derive(Clone, Copy)]
-enum Stance {
+pub(super) enum Stance {
     Rest,
     Call,
     Asleep,
@@ -71,7 +71,7 @@ fn begin(side: Side) -> Ask {
 }
 
 /// All that may be asked of a side.
-fn entries(side: Side) -> [Ask; 8] {
+pub(super) fn entries(side: Side) -> [Ask; 8] {
     [
         Ask::Turn(side),
         Ask::Failing(side, 5),
@@ -92,7 +92,7 @@ fn nobody_attached() -> Case {
 }
 
 /// A record in its limits: that of the ring, and of the calls that a stance is reached by.
-fn good(side: Side, stance: Stance) -> Terms {
+pub(super) fn good(side: Side, stance: Stance) -> Terms {
     let length = match (side, stance) {
         (_, Stance::Rest) => 0,
         (Recorder, _) => 8,
@@ -104,6 +104,7 @@ fn good(side: Side, stance: Stance) -> Terms {
         power: Ring::SMALL.power,
         slot_size: Ring::SMALL.slot_size,
         length,
+        spins: 0,
     }
 }
 
@@ -121,6 +122,10 @@ fn bad(good: Terms) -> Vec<Terms> {
     ];
     bad.extend([0, MOST_POWER + 1, 255].map(|power| Terms { power, ..good }));
     bad.extend([0, 12, MOST_SLOT_SIZE + 8, u32::MAX].map(|slot_size| Terms { slot_size, ..good }));
+    bad.push(Terms {
+        spins: MOST_SPINS + 1,
+        ..good
+    });
     // A pop may name any length, and then what is asked is done.
     if good.side == Sender {
         bad.extend([9, u32::MAX].map(|length| Terms { length, ..good }));

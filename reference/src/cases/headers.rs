@@ -117,7 +117,7 @@ fn attach_lengths(ring: Ring) -> Case {
         Case::PATTERNED,
         total,
     ] {
-        case = case.lend(Part::Region, length).asks(SIDES.map(Ask::Attach));
+        case = case.lend(Part::Region, length).asks(SIDES.map(Ask::attach));
     }
     case
 }
@@ -127,16 +127,16 @@ fn attached_twice() -> Case {
         "Answer 16: attached already, and a stranger's record",
         Ring::SMALL,
     )
-    .ask(Ask::Attach(Recorder))
+    .ask(Ask::attach(Recorder))
     .turns(Recorder, 1)
-    .ask(Ask::Attach(Sender))
+    .ask(Ask::attach(Sender))
     .turns(Sender, 1)
     .put(Header::AT_FLAGS, 1, 0x40)
-    .asks(SIDES.map(Ask::Attach))
+    .asks(SIDES.map(Ask::attach))
 }
 
 /// A damage for each check of attach, in the order of the checks.
-fn damages() -> [Ask; 12] {
+pub(super) fn damages() -> [Ask; 12] {
     let put = |at: usize, count, value| Ask::Put {
         at: at as u32,
         count,
@@ -167,7 +167,7 @@ fn order() -> Case {
         for &first in &damages[..k] {
             case = case
                 .ask(Ring::SMALL.create())
-                .asks([first, second, Ask::Attach(Sender)]);
+                .asks([first, second, Ask::attach(Sender)]);
         }
     }
     case
@@ -213,20 +213,19 @@ fn whole_words() -> Case {
             case = case
                 .ask(Ring::SMALL.create())
                 .put(at, count, value)
-                .asks(SIDES.map(Ask::Attach));
+                .asks(SIDES.map(Ask::attach));
         }
     }
     // Power and slot size that keep the product, and sizes that belong together.
     case.ask(Ring::SMALL.create())
         .put(Header::AT_POWER, 1, 2)
         .put(Header::AT_SLOT_SIZE, 4, 8)
-        .asks(SIDES.map(Ask::Attach))
+        .asks(SIDES.map(Ask::attach))
         .push(false, 1, 1)
         .push(false, 1, 0)
         .turns(Sender, 6)
 }
 
-/// Each of the low seven bits and the first reserved one, from either side.
 /// A header with no ring behind it, for sizes whose ring is 0 bytes in 32 bits: 4.
 fn cut_products() -> Case {
     const SIZE: u32 = Header::SIZE as u32;
@@ -247,11 +246,12 @@ fn cut_products() -> Case {
             .put(Header::AT_RING_BYTES, 8, 0)
             .put(Header::AT_POWER, 1, power.into())
             .put(Header::AT_SLOT_SIZE, 4, slot_size.into())
-            .asks(SIDES.map(Ask::Attach));
+            .asks(SIDES.map(Ask::attach));
     }
     case
 }
 
+/// Each of the low seven bits and the first reserved one, from either side.
 fn flags() -> Case {
     let mut case = Case::new("Attach: flag bits, 4 before 14 before 16")
         .lend(Part::Region, Ring::SMALL.total());
@@ -271,7 +271,7 @@ fn flags() -> Case {
             case = case
                 .ask(Ring::SMALL.create())
                 .put(Header::AT_FLAGS, 4, flags)
-                .ask(Ask::Attach(side));
+                .ask(Ask::attach(side));
         }
     }
     case
@@ -287,6 +287,7 @@ fn every_byte(side: Side, ring: Ring) -> Case {
     );
     let sweep = |at| Ask::Sweep {
         side,
+        spins: 0,
         at,
         flags: ring.flags() as u8,
     };

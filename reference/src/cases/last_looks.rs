@@ -31,7 +31,7 @@ fn last_note(place: &str, before: usize) -> Case {
 
 /// A try form of either side, as far as so many turns lead: three store its counter, and five
 /// raise the bell where the other was blocked.
-fn begun(case: Case, side: Side, turns: usize) -> Case {
+pub(super) fn begun(case: Case, side: Side, turns: usize) -> Case {
     let case = match side {
         Sender => case.push(false, 3, 4),
         Recorder => case.pop(false, 8),

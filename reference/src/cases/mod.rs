@@ -8,6 +8,7 @@ mod headers;
 mod last_looks;
 pub mod record;
 mod rings;
+mod spins;
 mod spoilt;
 pub mod stage;
 pub mod sums;
@@ -26,6 +27,7 @@ pub fn list() -> Vec<Case> {
     [
         turns::list(),
         last_looks::list(),
+        spins::list(),
         rings::list(),
         damage::list(),
         grounds::list(),

@@ -23,6 +23,7 @@ pub struct Terms {
     pub power: u8,
     pub slot_size: u32,
     pub length: u32,
+    pub spins: u16,
 }
 
 /// What one record asks.
@@ -43,7 +44,10 @@ pub enum Ask {
     },
     Close(Side),
     Shutdown(Side),
-    Attach(Side),
+    Attach {
+        side: Side,
+        spins: u16,
+    },
     Create {
         power: u8,
         slot_size: u32,
@@ -53,6 +57,7 @@ pub enum Ask {
     /// An attach for each value of one byte, the low byte of the flags set before each.
     Sweep {
         side: Side,
+        spins: u16,
         at: u32,
         flags: u8,
     },
@@ -106,6 +111,11 @@ impl Record {
 type Fields = (u8, u8, u16, u32, u64);
 
 impl Ask {
+    /// An attach with no spins.
+    pub fn attach(side: Side) -> Self {
+        Ask::Attach { side, spins: 0 }
+    }
+
     pub fn kind(self) -> u8 {
         self.fields().0
     }
@@ -139,14 +149,19 @@ impl Ask {
             Ask::Pop { blocking, length } => (5, blocking.into(), 0, length, 0),
             Ask::Close(side) => (6, side as u8, 0, 0, 0),
             Ask::Shutdown(side) => (7, side as u8, 0, 0, 0),
-            Ask::Attach(side) => (8, side as u8, 0, 0, 0),
+            Ask::Attach { side, spins } => (8, side as u8, spins, 0, 0),
             Ask::Create {
                 power,
                 slot_size,
                 not_full,
                 start,
             } => (10, not_full.into(), power.into(), slot_size, start),
-            Ask::Sweep { side, at, flags } => (11, side as u8, 0, at, flags.into()),
+            Ask::Sweep {
+                side,
+                spins,
+                at,
+                flags,
+            } => (11, side as u8, spins, at, flags.into()),
             Ask::Put { at, count, value } => (12, 0, count, at, value),
             Ask::Spoil(side, terms) => spoil_fields(side, terms),
             Ask::Unknown(kind) => (kind, 0, 0, 0, 0),
@@ -168,7 +183,7 @@ impl Ask {
             Ask::Pop { blocking, length } => format!("pop {}{length}", mode(blocking)),
             Ask::Close(side) => format!("close {}", side.name()),
             Ask::Shutdown(side) => format!("shutdown {}", side.name()),
-            Ask::Attach(side) => format!("attach {}", side.name()),
+            Ask::Attach { side, spins } => attach_words(side, spins),
             Ask::Create {
                 power,
                 slot_size,
@@ -178,9 +193,12 @@ impl Ask {
                 let option = if not_full { "on" } else { "off" };
                 format!("create power {power} slot {slot_size} not-full {option} start {start:#X}")
             }
-            Ask::Sweep { side, at, .. } => {
-                format!("attach {} over each value of byte {at:#05X}", side.name())
-            }
+            Ask::Sweep {
+                side, spins, at, ..
+            } => format!(
+                "{} over each value of byte {at:#05X}",
+                attach_words(side, spins)
+            ),
             Ask::Put { at, count, value } => put_words(at, count, value),
             Ask::Spoil(side, terms) => format!("record of {}: {}", side.name(), set(terms)),
             Ask::Unknown(kind) => format!("unknown kind {kind}"),
@@ -191,7 +209,20 @@ impl Ask {
 fn spoil_fields(seat: Side, terms: Terms) -> Fields {
     let part = seat as u8 + 2 * terms.side as u8 + 4 * u8::from(terms.attached);
     let power = terms.power.into();
-    (9, part, power, terms.slot_size, terms.length.into())
+    let value = u64::from(terms.length) | u64::from(terms.spins) << 32;
+    (9, part, power, terms.slot_size, value)
+}
+
+fn attach_words(side: Side, spins: u16) -> String {
+    format!("attach {}{}", side.name(), spins_words(spins))
+}
+
+/// Most parties do not spin, and then nothing is told of it.
+fn spins_words(spins: u16) -> String {
+    match spins {
+        0 => String::new(),
+        _ => format!(", spins {spins}"),
+    }
 }
 
 fn put_words(at: u32, count: u16, value: u64) -> String {
@@ -217,7 +248,10 @@ fn set(terms: Terms) -> String {
         power,
         slot_size,
         length,
+        spins,
     } = terms;
-    let side = side.name();
-    format!("side {side}, attached {attached}, power {power}, slot {slot_size}, length {length}")
+    let (side, spins) = (side.name(), spins_words(spins));
+    format!(
+        "side {side}, attached {attached}, power {power}, slot {slot_size}, length {length}{spins}"
+    )
 }

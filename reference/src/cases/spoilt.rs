@@ -24,7 +24,7 @@ pub fn headers() -> Case {
         for _ in 0..1 + dice.below(3) {
             case = case.ask(random_damage(&mut dice));
         }
-        case = case.ask(Ask::Attach(if dice.percent(50) {
+        case = case.ask(Ask::attach(if dice.percent(50) {
             Sender
         } else {
             Recorder

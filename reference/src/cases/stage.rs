@@ -61,7 +61,17 @@ impl Stage {
     pub fn play(&mut self, record: Record) -> Came {
         self.buffer.fill(0);
         match record.ask {
-            Ask::Sweep { side, at, flags } => self.sweep(record, side, at as usize, flags),
+            Ask::Sweep {
+                side,
+                spins,
+                at,
+                flags,
+            } => {
+                let region = self.lent_region(record);
+                sweep(region, at as usize, flags, |region| {
+                    region::attach(region, side, spins)
+                })
+            }
             _ => Came {
                 answer: self.answer(record),
                 accepted: 0,
@@ -115,8 +125,8 @@ impl Stage {
     /// What is no event.
     fn arrange(&mut self, record: Record) -> Answer {
         match record.ask {
-            Ask::Attach(side) => {
-                let (answer, party) = region::attach(self.lent_region(record), side);
+            Ask::Attach { side, spins } => {
+                let (answer, party) = region::attach(self.lent_region(record), side, spins);
                 *self.bench.party_mut(side) = party;
                 return answer;
             }
@@ -157,31 +167,6 @@ impl Stage {
         answer
     }
 
-    /// An attach for each value of one byte. The answer's values are the two halves of the sum
-    /// of all that came of them.
-    fn sweep(&mut self, record: Record, side: Side, at: usize, flags: u8) -> Came {
-        let region = self.lent_region(record);
-        let mut accepted = 0;
-        let mut sum = Sum::default();
-        for value in 0..=u8::MAX {
-            put(region, Header::AT_FLAGS, 1, flags.into());
-            put(region, at, 1, value.into());
-            let (answer, party) = region::attach(region, side);
-            accepted += u16::from(answer == Answer::Done);
-            sum = sum
-                .mix_wide(told_word(0, answer))
-                .mix_wide(party_word(side, &party))
-                .mix_bytes(region);
-        }
-        Came {
-            answer: Answer::Delivered {
-                tag: (sum.value() >> 16) as u16,
-                length: sum.value() as u16,
-            },
-            accepted,
-        }
-    }
-
     fn lent_region(&mut self, record: Record) -> &mut [u8] {
         let end = room(record.region, &self.region);
         &mut self.region[..end]
@@ -204,10 +189,40 @@ fn put(bytes: &mut [u8], at: usize, count: usize, value: u64) {
     }
 }
 
+/// An attach for each value of one byte. The answer's values are the two halves of the sum of all
+/// that came of them.
+fn sweep(
+    region: &mut [u8],
+    at: usize,
+    flags: u8,
+    attach: impl Fn(&mut [u8]) -> (Answer, Party),
+) -> Came {
+    let mut accepted = 0;
+    let mut sum = Sum::default();
+    for value in 0..=u8::MAX {
+        put(region, Header::AT_FLAGS, 1, flags.into());
+        put(region, at, 1, value.into());
+        let (answer, party) = attach(region);
+        accepted += u16::from(answer == Answer::Done);
+        sum = sum
+            .mix_wide(told_word(0, answer))
+            .mix_wide(party_word(party.side, &party))
+            .mix_bytes(region);
+    }
+    Came {
+        answer: Answer::Delivered {
+            tag: (sum.value() >> 16) as u16,
+            length: sum.value() as u16,
+        },
+        accepted,
+    }
+}
+
 fn spoil(party: &mut Party, terms: Terms) {
     party.side = terms.side;
     party.attached = terms.attached;
     party.power = terms.power;
     party.slot_size = terms.slot_size;
     party.length = terms.length as usize;
+    party.spins = terms.spins;
 }

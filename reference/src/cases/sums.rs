@@ -55,6 +55,7 @@ pub fn party_word(seat: Side, party: &Party) -> u64 {
         .mix(party.power.into())
         .mix(party.slot_size)
         .mix(party.not_full.into())
+        .mix(party.spins.into())
         .mix(party.closed.into())
         .mix_wide(party.count)
         .mix(party.blocking.into())
@@ -64,8 +65,8 @@ pub fn party_word(seat: Side, party: &Party) -> u64 {
     pair(step_number(party.step), sum.value())
 }
 
-/// Steps of the two sides that mirror each other have one number. The last look has the number
-/// after all others: it came last, and no other number was to move.
+/// Steps of the two sides that mirror each other have one number. The last look and then the spin
+/// have the numbers after all others: they came last, and no other number was to move.
 fn step_number(step: Step) -> u32 {
     match step {
         Step::Rest => 0,
@@ -82,6 +83,7 @@ fn step_number(step: Step) -> u32 {
         Step::B5 { .. } | Step::W5 { .. } => 11,
         Step::Asleep => 12,
         Step::B6 | Step::W6 { .. } => 21,
+        Step::Spin { .. } => 22,
         Step::Close(CloseTurn::SetBit) => 13,
         Step::Close(CloseTurn::Raise) => 14,
         Step::Close(CloseTurn::WakeAll) => 15,

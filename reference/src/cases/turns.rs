@@ -233,7 +233,7 @@ fn own_close() -> Case {
     .push(false, 1, 1)
     .push(true, 1, 99)
     .put(Header::AT_FLAGS, 1, 0x5D)
-    .ask(Ask::Attach(Sender))
+    .ask(Ask::attach(Sender))
     .push(false, 1, 1)
     .turns(Sender, 6)
 }

@@ -114,7 +114,7 @@ impl Coverage {
                     .map(|place| row(&place.name(), Event::ALL.map(|event| cell(place, event)))),
             );
         }
-        table + &self.ways_line() + &self.answers_line() + &self.strays.lines()
+        table + &self.ways_line() + &spins_line() + &self.answers_line() + &self.strays.lines()
     }
 
     fn answers_line(&self) -> String {
@@ -134,6 +134,20 @@ impl Coverage {
             self.reach.states.len()
         )
     }
+}
+
+/// The script program attaches with no spins, so a spin has no row, and no way of it is asked for.
+fn spins_line() -> String {
+    let words = |side: Side| {
+        let ways =
+            Place::of_spins(side).map(|(from, to)| format!("{} to {}", from.name(), to.name()));
+        format!("{} {}", side.name(), ways.join(", "))
+    };
+    format!(
+        "spins (S), which no script has and the cases play: {}; {}\n",
+        words(Side::Sender),
+        words(Side::Recorder)
+    )
 }
 
 fn row(head: &str, cells: [String; Event::ALL.len()]) -> String {

@@ -87,6 +87,7 @@ fn may_come_to_copy(step: Step) -> bool {
             | Step::W4 { .. }
             | Step::W5 { .. }
             | Step::W6 { .. }
+            | Step::Spin { .. }
             | Step::Asleep
     )
 }

@@ -76,6 +76,7 @@ impl Place {
             Step::W4 { .. } => Step::W4 { epoch },
             Step::W5 { .. } => Step::W5 { epoch },
             Step::W6 { .. } => Step::W6 { timed_out: false },
+            Step::Spin { .. } => Step::Spin { left: 0 },
             Step::C3 { .. } => Step::C3 { length },
             Step::C4 { .. } => Step::C4 { length },
             Step::C5 { .. } => Step::C5 { length },
@@ -95,8 +96,8 @@ impl Place {
         }
     }
 
-    /// Every step of document 01 that a side can stand at, but for those of a corruption: the
-    /// script program's counters are never corrupt.
+    /// Every step of document 01 that a side can stand at, but for those of a corruption and a
+    /// spin: the script program's counters are never corrupt, and its parties do not spin.
     pub fn all(side: Side) -> impl Iterator<Item = Place> {
         let own = match side {
             Side::Sender => PUSH,
@@ -104,6 +105,27 @@ impl Place {
         };
         let place = move |step| Place { side, step };
         own.into_iter().chain(SHARED).map(place)
+    }
+
+    /// The ways of a spin, from where to where. No script plays them, and the cases do.
+    pub fn of_spins(side: Side) -> [(Place, Place); 5] {
+        let (gate, epoch, copy) = match side {
+            Side::Sender => (Step::B1, Step::B2, Step::P2),
+            Side::Recorder => (Step::W1, Step::W2, Step::C2),
+        };
+        let spin = Step::Spin { left: 0 };
+        let corruption = Step::Shut {
+            turn: ShutTurn::SetBit,
+            cause: Cause::Corruption,
+        };
+        [
+            (gate, spin),
+            (spin, spin),
+            (spin, epoch),
+            (spin, copy),
+            (spin, corruption),
+        ]
+        .map(|(from, to)| (Place { side, step: from }, Place { side, step: to }))
     }
 
     pub fn name(&self) -> String {

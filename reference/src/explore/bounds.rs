@@ -132,6 +132,32 @@ fn in_call(state: &State, side: Side) -> bool {
     !matches!(state.step(side), Step::Close(_) | Step::Shut { .. })
 }
 
+/// T2's number, which is the same for every spin count: a spin that finds room leads to the copy.
+pub fn most_to_no_room(room: u64) -> u32 {
+    4 * room as u32 + 3
+}
+
+/// T4's number. The spins do not see what makes a party stop: the epoch, a look and the flags come
+/// after them, and for a recorder a last look.
+pub fn most_to_rest(side: Side, spins: u16) -> u32 {
+    let after = match side {
+        Side::Sender => 3,
+        Side::Recorder => 4,
+    };
+    7.max(u32::from(spins) + after)
+}
+
+/// T9's number from any step of a wait: three turns to a wait that does not sleep, and then from
+/// the look.
+pub fn most_to_sleep(spins: u16) -> u32 {
+    3 + most_from_look(spins)
+}
+
+/// T9's number from the look: the gate, the spins, and the four turns to sleep.
+pub fn most_from_look(spins: u16) -> u32 {
+    6 + u32::from(spins)
+}
+
 /// T2: the turns of a willing party alone until no room is left, for a room of `room`.
 pub fn to_no_room(
     machine: &mut Machine,
@@ -182,6 +208,7 @@ fn in_wait(party: &Party) -> bool {
             | Step::W3 { .. }
             | Step::W4 { .. }
             | Step::W5 { .. }
+            | Step::Spin { .. }
     );
     waits && party.blocking
 }

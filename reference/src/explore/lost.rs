@@ -155,7 +155,7 @@ pub fn told(rule: &Rule) -> Report {
             "\nT2 and T4 count turns that are taken, and a sleeper's answer 253: the sleep itself is\n\
              for T3 alone. The most own turns by this rule, ! where they pass the bound:\n",
         );
-        tables::own_turns(&mut report, rule.turns, 1, Menu::fair);
+        tables::own_turns(&mut report, &mut machine, Menu::fair);
     }
     report
 }
@@ -168,16 +168,30 @@ fn kept(report: &mut Report, name: &str, explored: &Explored) {
     report.line(&format!("  {name:<22}  {verdict}"));
 }
 
+/// Power, not-full option and spin count of the rings that the mended rules are walked on.
+const RINGS: [(u8, bool, u16); 7] = [
+    (1, true, 0),
+    (1, false, 0),
+    (2, true, 0),
+    (2, false, 0),
+    (1, true, 1),
+    (1, false, 1),
+    (1, true, 2),
+];
+
 /// The mended rules, explored to the end: T1 and T10 with every wake failing at will, T3 for
 /// each side under its premise.
 pub fn mended() -> Report {
     let mut report = Report::new(
         "The rules as document 01 mends them: every order of turns, however many notes.\n".into(),
     );
-    for (power, not_full) in [(1, true), (1, false), (2, true), (2, false)] {
-        let mut machine = Machine::new(Turns::by::<Mended>(), power, not_full);
+    for (power, not_full, spins) in RINGS {
+        let mut machine = Machine::spinning(Turns::by::<Mended>(), power, not_full, spins);
         let option = if not_full { "on" } else { "off" };
-        report.line(&format!("\ncapacity {}, not-full {option}", 1 << power));
+        let capacity = machine.capacity();
+        report.line(&format!(
+            "\ncapacity {capacity}, not-full {option}, spin count {spins}"
+        ));
         let t1 = Walk {
             menu: Menu::ALL,
             claims: &[Claim::Order, Claim::Count, Claim::Carries],

@@ -167,10 +167,16 @@ pub struct Machine {
 }
 
 impl Machine {
+    /// A machine whose parties do not spin.
     pub fn new(turns: Turns, power: u8, not_full: bool) -> Self {
+        Machine::spinning(turns, power, not_full, 0)
+    }
+
+    /// One whose parties spin so many times before they read an epoch.
+    pub fn spinning(turns: Turns, power: u8, not_full: bool, spins: u16) -> Self {
         let mut region = vec![0; region::total_size(power, SLOT_SIZE)];
         let created = region::create(&mut region, power, SLOT_SIZE, not_full, 0);
-        let (attached, bench) = Bench::attach(&mut region);
+        let (attached, bench) = Bench::attach(&mut region, spins);
         assert_eq!((created, attached), (Answer::Done, Answer::Done));
         let mut start = State {
             head: 0,
@@ -203,6 +209,10 @@ impl Machine {
 
     pub fn capacity(&self) -> u64 {
         self.start.bench.sender.capacity()
+    }
+
+    pub fn spins(&self) -> u16 {
+        self.start.bench.sender.spins
     }
 
     /// The bits of a bell that a wait looks at.

@@ -28,6 +28,10 @@ fn run(report: &mut Report, turns: Turns, menu: Menu, claims: &[Claim]) {
     );
 }
 
+fn mended(power: u8, spins: u16) -> Machine {
+    Machine::spinning(Turns::by::<Mended>(), power, true, spins)
+}
+
 fn mended_run(report: &mut Report, menu: Menu, claims: &[Claim]) {
     run(report, Turns::by::<Mended>(), menu, claims);
 }
@@ -57,7 +61,7 @@ fn wake() -> Report {
          answer 253; T9 asks nothing of wakes. With every wake failing at will, the most own\n\
          turns at capacity 2:\n",
     );
-    report.well &= tables::own_turns(&mut report, Turns::by::<Mended>(), 1, |_| Menu::ALL);
+    report.well &= tables::own_turns(&mut report, &mut mended(1, 0), |_| Menu::ALL);
     report
 }
 
@@ -68,18 +72,44 @@ fn time_out() -> Report {
          `by` is one of the longest stretches.\n"
             .into(),
     );
-    let mended = Turns::by::<Mended>();
     for power in [1, 2] {
         report.line(&format!(
             "\nCapacity {}, time-outs everywhere:\n",
             1 << power
         ));
-        report.well &= tables::own_turns(&mut report, mended, power, Menu::fair);
+        report.well &= tables::own_turns(&mut report, &mut mended(power, 0), Menu::fair);
         report.line(&format!("\nCapacity {}, no time-outs:\n", 1 << power));
-        report.well &= tables::own_turns(&mut report, mended, power, |side| Menu {
+        report.well &= tables::own_turns(&mut report, &mut mended(power, 0), |side| Menu {
             time_outs: false,
             ..Menu::fair(side)
         });
+    }
+    report
+}
+
+/// Power and spin count of the rings whose turns are counted.
+const SPUN: [(u8, u16); 8] = [
+    (1, 0),
+    (1, 1),
+    (1, 2),
+    (1, 3),
+    (1, 4),
+    (1, 5),
+    (2, 1),
+    (2, 2),
+];
+
+fn spins() -> Report {
+    let mut report = Report::new(
+        "Nothing is asked of spin counts: T2's numbers are the same for every count. T4's is 7,\n\
+         or the count and 3, for a recorder 4, where that is more; T9's are the count and 9, or 6\n\
+         from the look.\n\
+         The most own turns found, as `needed time-out` has them:\n"
+            .into(),
+    );
+    for (power, count) in SPUN {
+        report.line(&format!("\nCapacity {}, spin count {count}:\n", 1 << power));
+        report.well &= tables::own_turns(&mut report, &mut mended(power, count), Menu::fair);
     }
     report
 }
@@ -110,8 +140,8 @@ fn bell() -> Report {
     report.line(
         "\nAs with wakes that fail, the numbers of T2, T4 and T9 stay. With a bell of one bit:\n",
     );
-    let narrow = Turns::by::<NarrowBell<1>>();
-    report.well &= tables::own_turns(&mut report, narrow, 1, Menu::fair);
+    let mut narrow = Machine::new(Turns::by::<NarrowBell<1>>(), 1, true);
+    report.well &= tables::own_turns(&mut report, &mut narrow, Menu::fair);
     report.line(
         "\nA shutdown may be begun again and again, and each raises both bells once: only\n\
          2^32 shutdowns, or nearly as many, bring a bell of 32 bits round.",
@@ -177,7 +207,7 @@ pub struct Premise {
     pub told: fn() -> Report,
 }
 
-pub const PREMISES: [Premise; 6] = [
+pub const PREMISES: [Premise; 7] = [
     Premise {
         name: "wake",
         says: "no wake fails that would have woken the party (T3)",
@@ -187,6 +217,11 @@ pub const PREMISES: [Premise; 6] = [
         name: "time-out",
         says: "not a premise: T2, T4 and T9 counted with time-outs and without",
         told: time_out,
+    },
+    Premise {
+        name: "spins",
+        says: "not a premise: T2, T4 and T9 counted for spin counts",
+        told: spins,
     },
     Premise {
         name: "bell",

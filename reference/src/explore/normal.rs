@@ -17,7 +17,7 @@ fn uses_epoch(step: Step) -> bool {
     epoch(step).is_some()
         || matches!(
             step,
-            Step::B1 | Step::B2 | Step::W1 | Step::W2 | Step::Asleep
+            Step::B1 | Step::B2 | Step::W1 | Step::W2 | Step::Spin { .. } | Step::Asleep
         )
 }
 

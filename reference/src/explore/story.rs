@@ -145,7 +145,7 @@ impl Scene<'_> {
         match self.before.step(side) {
             Step::Rest | Step::Asleep => "does nothing".into(),
             Step::P1 | Step::B3 { .. } | Step::B6 => self.loads(side),
-            Step::C1 | Step::W3 { .. } | Step::W6 { .. } => self.loads(side),
+            Step::C1 | Step::W3 { .. } | Step::W6 { .. } | Step::Spin { .. } => self.loads(side),
             Step::P2 | Step::C2 => self.copies(side),
             Step::P3 => format!("stores head {}: the note is sent", self.after.head),
             Step::C3 { .. } => format!(

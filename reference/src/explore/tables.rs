@@ -1,6 +1,9 @@
 //! The numbers of T2, T4 and T9, and how often a bell is raised between a look and a wait.
 
-use super::bounds::{states, to_no_room, to_rest, to_sleep, Largest};
+use super::bounds::{
+    most_from_look, most_to_no_room, most_to_rest, most_to_sleep, states, to_no_room, to_rest,
+    to_sleep, Largest,
+};
 use super::machine::{Machine, State, Turns};
 use super::menu::Menu;
 use super::normal::raises;
@@ -9,12 +12,6 @@ use super::search::Walk;
 use crate::party::{Party, Side, Step};
 use crate::rules::Mended;
 use crate::words;
-
-/// T4's number.
-const SEVEN: u32 = 7;
-/// T9's numbers: from any step of a wait, and from the look.
-const NINE: u32 = 9;
-const SIX: u32 = 6;
 
 fn turns_words(largest: &Largest) -> String {
     match largest.turns {
@@ -51,28 +48,28 @@ fn row(report: &mut Report, name: &str, side: Side, largest: &Largest, bound: u3
 /// T2 for each room, T4 and T9 of one side.
 fn rows(report: &mut Report, machine: &mut Machine, side: Side, menu: Menu) -> bool {
     let found = states(machine, menu);
+    let spins = machine.spins();
     let mut kept = true;
     for room in 1..=machine.capacity() {
         let largest = to_no_room(machine, &found, side, menu, room);
-        let bound = 4 * room as u32 + 3;
-        kept &= row(report, &format!("T2, k = {room}"), side, &largest, bound);
+        let name = format!("T2, k = {room}");
+        kept &= row(report, &name, side, &largest, most_to_no_room(room));
     }
     let largest = to_rest(machine, &found, side, menu);
-    kept &= row(report, "T4", side, &largest, SEVEN);
+    kept &= row(report, "T4", side, &largest, most_to_rest(side, spins));
     let largest = to_sleep(machine, &found, side, |_| true);
-    kept &= row(report, "T9", side, &largest, NINE);
+    kept &= row(report, "T9", side, &largest, most_to_sleep(spins));
     let look = |step| matches!(step, Step::P1 | Step::C1);
     let largest = to_sleep(machine, &found, side, look);
-    kept & row(report, "T9, look", side, &largest, SIX)
+    kept & row(report, "T9, look", side, &largest, most_from_look(spins))
 }
 
 /// The most own turns in every state that a menu leads to, in stretches by the same menu.
 /// Gives whether the bounds are kept.
-pub fn own_turns(report: &mut Report, turns: Turns, power: u8, menu_of: fn(Side) -> Menu) -> bool {
-    let mut machine = Machine::new(turns, power, true);
+pub fn own_turns(report: &mut Report, machine: &mut Machine, menu_of: fn(Side) -> Menu) -> bool {
     report.line("  party     theorem    bound  reached  by");
     let [sender, recorder] =
-        [Side::Sender, Side::Recorder].map(|side| rows(report, &mut machine, side, menu_of(side)));
+        [Side::Sender, Side::Recorder].map(|side| rows(report, machine, side, menu_of(side)));
     sender && recorder
 }
 

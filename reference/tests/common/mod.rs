@@ -15,10 +15,15 @@ pub struct House {
 
 impl House {
     pub fn new(power: u8, slot_size: u32, not_full: bool, start: u64) -> Self {
+        House::spinning(power, slot_size, not_full, start, 0)
+    }
+
+    /// The same with so many spins of either party.
+    pub fn spinning(power: u8, slot_size: u32, not_full: bool, start: u64, spins: u16) -> Self {
         let mut region = vec![0xA5; total_size(power, slot_size)];
         let created = create(&mut region, power, slot_size, not_full, start);
         assert_eq!(created, Answer::Done);
-        let (attached, bench) = Bench::attach(&mut region);
+        let (attached, bench) = Bench::attach(&mut region, spins);
         assert_eq!(attached, Answer::Done);
         House {
             region,
