@@ -1,12 +1,13 @@
-// Attach: the record of the party that joins a region, once the region has passed its checks.
+// Attach: the record of the party that joins a region, once its spin count and the region have passed their checks.
 ghost use mathlib.Core.Path.{_≡_};
 ghost use Prim.Native.Nat.{_≤_};
 ghost use lib.ListN.{length};
 ghost use Rattle.words.specs.Le.{leAt, putLe};
+ghost use Rattle.types.specs.Answers.{firstOf};
 ghost use Rattle.layout.specs.Limits.{headerBytes};
 ghost use Rattle.layout.specs.Flags.{worth, setBit, attachMark};
 ghost use Rattle.layout.specs.Header.{flagsAt};
-ghost use Rattle.layout.specs.Attach.{fresh, unattached, attached, attachReply, attachLeaves};
+ghost use Rattle.layout.specs.Attach.{fresh, unattached, attached, regionChecks, attachAnswer, attachReply, attachLeaves};
 use header::Header;
 use types::Answer;
 use types::Own;
@@ -39,14 +40,15 @@ fn unattached(side: Side) -> Party
         power: 0,
         slot: 0,
         notfull: false,
+        spins: 0,
     };
     fresh(own, 0)
 }
 
-// The party's own copy of its counter, the sizes and the option.
-fn attached(region: &[u8], side: Side) -> Party
+// The party's own copy of its counter, the sizes and the option, and its spin count.
+fn attached(region: &[u8], side: Side, spins: u16) -> Party
     requires { ⌜ headerBytes ≤ length (now region) ⌝ }
-    ensures { λ r. ⌜ r ≡ attached (now (region .entry)) side ⌝ }
+    ensures { λ r. ⌜ r ≡ attached (now (region .entry)) side spins ⌝ }
 {
     let own = Own {
         side,
@@ -54,6 +56,7 @@ fn attached(region: &[u8], side: Side) -> Party
         power: Header::power(region),
         slot: Header::slot_size(region),
         notfull: Header::notfull_on(Header::flags(region)),
+        spins,
     };
     fresh(own, Header::counter(region, side))
 }
@@ -67,26 +70,37 @@ fn set_own_bit(region: &mut [u8], side: Side)
     words::store32(region, Header::FLAGS, Header::with_mark(flags, own));
 }
 
-pub fn attach(region: &mut [u8], side: Side) -> Reply
-    ensures reply { λ r. ⌜ r ≡ attachReply (now (region .entry)) side ⌝ }
-    ensures leaves { λ r. ⌜ now (region .exit) ≡ attachLeaves (now (region .entry)) side ⌝ }
+// A region too short for a header has no fields to check.
+fn region_answer(region: &[u8], side: Side) -> Answer
+    ensures { λ r. ⌜ r ≡ firstOf (regionChecks (now (region .entry)) side) ⌝ }
 {
-    let stranger = unattached(side);
     if region.len() < Header::BYTES {
-        return Reply {
-            party: stranger,
-            answer: Answer::InvalidLayout,
-        };
+        return Answer::InvalidLayout;
     }
-    let answer = checks::check(region, side);
+    checks::check(region, side)
+}
+
+// A count above the limit is refused before anything of the region is looked at.
+fn attach_answer(region: &[u8], side: Side, spins: u16) -> Answer
+    ensures { λ r. ⌜ r ≡ attachAnswer (now (region .entry)) side spins ⌝ }
+{
+    if !sizes::spins_ok(spins) {
+        return Answer::BadCall;
+    }
+    region_answer(region, side)
+}
+
+pub fn attach(region: &mut [u8], side: Side, spins: u16) -> Reply
+    ensures reply { λ r. ⌜ r ≡ attachReply (now (region .entry)) side spins ⌝ }
+    ensures leaves { λ r. ⌜ now (region .exit) ≡ attachLeaves (now (region .entry)) side spins ⌝ }
+{
+    let answer = attach_answer(region, side, spins);
     let told = answer.told();
     if told.number != 0 {
-        return Reply {
-            party: stranger,
-            answer,
-        };
+        let party = unattached(side);
+        return Reply { party, answer };
     }
-    let party = attached(region, side);
+    let party = attached(region, side, spins);
     set_own_bit(region, side);
     Reply { party, answer }
 }

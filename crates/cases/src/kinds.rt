@@ -40,6 +40,7 @@ fn spoiled(p: Party, c: Case) -> Reply {
         power: (c.tag % 0x100) as u8,
         slot: c.number,
         notfull: kept.notfull,
+        spins: (c.value / 0x1_0000_0000 % 0x1_0000) as u16,
     };
     let mut party = p;
     party.own = own;
@@ -65,7 +66,7 @@ pub(crate) fn put(s: &mut [u8], at: u32, count: u32, value: u64) -> Answer {
 fn try_value(region: &mut [u8], c: Case, x: u8, sum: u32) -> u32 {
     put(region, FLAGS, 1, c.value);
     put(region, c.number, 1, x as u64);
-    let reply = attach::attach(region, records::side_of(c.part));
+    let reply = attach::attach(region, records::side_of(c.part), c.tag);
     sums::came_sum(sum, reply, region)
 }
 
@@ -96,7 +97,7 @@ fn arrange(region: &mut [u8], c: Case) -> Answer {
 fn reply_of(region: &mut [u8], p: Party, c: Case) -> Reply {
     let kind = c.kind;
     match kind {
-        8 => attach::attach(region, records::side_of(c.part)),
+        8 => attach::attach(region, records::side_of(c.part), c.tag),
         9 => spoiled(p, c),
         _ => {
             let answer = arrange(region, c);

@@ -124,7 +124,7 @@ fn report(c: Case, came: Came) -> bool {
 // A region of no bytes is refused, and gives the record of a party not attached.
 fn stranger(side: Side) -> Party {
     let mut none = [0u8; 0];
-    let reply = attach::attach(&mut none, side);
+    let reply = attach::attach(&mut none, side, 0);
     reply.party
 }
 

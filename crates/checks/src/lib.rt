@@ -7,7 +7,7 @@ ghost use lib.ListN.{length};
 ghost use Rattle.types.specs.Answers.{firstOf};
 ghost use Rattle.layout.specs.Limits.{headerBytes};
 ghost use Rattle.layout.specs.Header.{reserved, allZero};
-ghost use Rattle.layout.specs.Attach.{magicOk, versionOk, sizesOk, flagChecks, ringChecks, attachAnswer};
+ghost use Rattle.layout.specs.Attach.{magicOk, versionOk, sizesOk, flagChecks, ringChecks, regionChecks};
 use header::Header;
 use sizes::Limits;
 use types::Answer;
@@ -108,7 +108,7 @@ fn check_ring(region: &[u8], side: Side) -> Answer
 // All checks of a region that has room for a header.
 pub fn check(region: &[u8], side: Side) -> Answer
     requires { ⌜ headerBytes ≤ length (now region) ⌝ }
-    ensures { λ r. ⌜ r ≡ attachAnswer (now (region .entry)) side ⌝ }
+    ensures { λ r. ⌜ r ≡ firstOf (regionChecks (now (region .entry)) side) ⌝ }
 {
     if !magic_ok(region) {
         return Answer::InvalidMagic;

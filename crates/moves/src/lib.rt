@@ -17,6 +17,7 @@ pub fn move_at(
 ) -> Move
     ensures { λ r. ⌜ r ≡ moveAt step own counter blocking length value error ⌝ }
 {
+    let spin = waits::to_spin(own.spins);
     match step {
         Step::Rest => Move::Still,
         Step::Look => steps::look_move(own, counter, blocking, value),
@@ -25,7 +26,8 @@ pub fn move_at(
         Step::Check(len, tag) => steps::check_move(own, counter, value, len, tag),
         Step::Raise(len, tag) => Move::To(Step::Wake(len, tag)),
         Step::Wake(len, tag) => steps::wake_move(own, error, len, tag),
-        Step::Gate => waits::gate_move(own, value, Step::Epoch),
+        Step::Gate => waits::gate_move(own, value, spin),
+        Step::Spin(left) => waits::spin_move(own, counter, value, left),
         Step::Epoch => Move::To(Step::Again((value % 0x1_0000_0000) as u32)),
         Step::Again(epoch) => waits::again_move(own, counter, value, epoch),
         Step::GateAgain(epoch) => waits::gate_move(own, value, Step::Wait(epoch)),

@@ -41,6 +41,7 @@ pub fn next_at(step: Step, side: Side, counter: u64) -> Access
         Step::Raise(_, _) => Access::RaiseBell(ring),
         Step::Wake(_, _) => Access::WakeBell(ring, ONE),
         Step::Gate => Access::LoadFlags,
+        Step::Spin(_) => Access::LoadCounter(them),
         Step::Epoch => Access::LoadBell(sleep),
         Step::Again(_) => Access::LoadCounter(them),
         Step::GateAgain(_) => Access::LoadFlags,

@@ -9,6 +9,9 @@ power-ok κs a z z′ ws ws′ p q = (p ∙ sym q, refl)
 pub slot-ok : OneAnswer code.slot_ok.Kinds.ps code.slot_ok.Kinds.r code.slot_ok.Reads.Post
 slot-ok κs a z z′ ws ws′ p q = (p ∙ sym q, refl)
 
+pub spins-ok : OneAnswer code.spins_ok.Kinds.ps code.spins_ok.Kinds.r code.spins_ok.Reads.Post
+spins-ok κs a z z′ ws ws′ p q = (p ∙ sym q, refl)
+
 pub capacity : OneAnswer code.capacity.Kinds.ps code.capacity.Kinds.r code.capacity.Reads.Post
 capacity κs a z z′ ws ws′ p q = (p ∙ sym q, refl)
 

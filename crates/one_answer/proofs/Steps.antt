@@ -3,6 +3,9 @@ use mathlib.Core.Path.{refl, sym, _∙_}
 use Rattle.one_answer.specs.OneAnswer.{OneAnswer}
 use Rattle.steps.proofs as code
 
+pub room-here : OneAnswer code.room_here.Kinds.ps code.room_here.Kinds.r code.room_here.Reads.Post
+room-here κs a z z′ ws ws′ p q = (p ∙ sym q, refl)
+
 pub room-move : OneAnswer code.room_move.Kinds.ps code.room_move.Kinds.r code.room_move.Reads.Post
 room-move κs a z z′ ws ws′ p q = (p ∙ sym q, refl)
 

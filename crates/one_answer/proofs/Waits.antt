@@ -6,6 +6,12 @@ use Rattle.waits.proofs as code
 pub gate-move : OneAnswer code.gate_move.Kinds.ps code.gate_move.Kinds.r code.gate_move.Reads.Post
 gate-move κs a z z′ ws ws′ p q = (p ∙ sym q, refl)
 
+pub to-spin : OneAnswer code.to_spin.Kinds.ps code.to_spin.Kinds.r code.to_spin.Reads.Post
+to-spin κs a z z′ ws ws′ p q = (p ∙ sym q, refl)
+
+pub spin-move : OneAnswer code.spin_move.Kinds.ps code.spin_move.Kinds.r code.spin_move.Reads.Post
+spin-move κs a z z′ ws ws′ p q = (p ∙ sym q, refl)
+
 pub again-move : OneAnswer code.again_move.Kinds.ps code.again_move.Kinds.r code.again_move.Reads.Post
 again-move κs a z z′ ws ws′ p q = (p ∙ sym q, refl)
 

@@ -37,10 +37,10 @@ total = refl
 -- what a create and two attaches on zeros leave is a fresh night
 pub begun : (region payload buffer : List ℕ) → length region ≡ totalBytes power slot → length payload ≡ payloadBytes → length buffer ≡ payloadBytes
     → nightOf
-    (attachLeaves (attachLeaves (createLeaves (replicate (length region) 0) power slot true 0) Sender) Recorder)
+    (attachLeaves (attachLeaves (createLeaves (replicate (length region) 0) power slot true 0) Sender 0) Recorder 0)
     (record {
-      sender = attachReply (createLeaves (replicate (length region) 0) power slot true 0) Sender .party;
-      recorder = attachReply (attachLeaves (createLeaves (replicate (length region) 0) power slot true 0) Sender) Recorder .party;
+      sender = attachReply (createLeaves (replicate (length region) 0) power slot true 0) Sender 0 .party;
+      recorder = attachReply (attachLeaves (createLeaves (replicate (length region) 0) power slot true 0) Sender 0) Recorder 0 .party;
     })
     (replicate (length payload) 0)
     (replicate (length buffer) 0)

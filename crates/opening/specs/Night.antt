@@ -21,7 +21,7 @@ pub record Night : Type 0 where
 abbrev pub nightOf : (region : List ℕ) → Bench → (payload buffer : List ℕ) → Night
 nightOf region b payload buffer = record { region = region; bench = b; payload = payload; buffer = buffer }
 
--- power 2, slot 32, not-full on, both attached
+-- power 2, slot 32, not-full on, both attached, neither of which spins
 abbrev pub power : ℕ
 power = 2
 
@@ -32,13 +32,13 @@ abbrev pub madeRegion : List ℕ
 madeRegion = created (replicate (totalBytes power slot) 0) power slot true 0
 
 abbrev pub senderIn : List ℕ
-senderIn = attachLeaves madeRegion Sender
+senderIn = attachLeaves madeRegion Sender 0
 
 unfoldable pub start : Night
 start =
     record {
-      region = attachLeaves senderIn Recorder;
-      bench = record { sender = attachReply madeRegion Sender .party; recorder = attachReply senderIn Recorder .party };
+      region = attachLeaves senderIn Recorder 0;
+      bench = record { sender = attachReply madeRegion Sender 0 .party; recorder = attachReply senderIn Recorder 0 .party };
       payload = replicate payloadBytes 0;
       buffer = replicate payloadBytes 0;
     }

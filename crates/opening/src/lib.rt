@@ -1,4 +1,4 @@
-// How a script begins: on a fresh region, with both parties attached.
+// How a script begins: on a fresh region, with both parties attached, neither of which spins.
 ghost use mathlib.Core.Path.{_≡_};
 ghost use lib.ListN.{length, replicate};
 ghost use Rattle.opening.specs.Night.{nightOf, start};
@@ -29,8 +29,8 @@ pub fn start(region: &mut [u8; 512], payload: &mut [u8; 24], buffer: &mut [u8; 2
     wipe(buffer);
     wipe(region);
     create::create(region, Region::POWER, Region::SLOT, true, 0);
-    let first = attach::attach(region, Side::Sender);
-    let second = attach::attach(region, Side::Recorder);
+    let first = attach::attach(region, Side::Sender, 0);
+    let second = attach::attach(region, Side::Recorder, 0);
     let sender = first.party;
     let recorder = second.party;
     Bench { sender, recorder }

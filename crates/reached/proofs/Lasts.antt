@@ -10,7 +10,6 @@ use Rattle.types.specs.declared.Side.{Side}
 use Rattle.types.specs.declared.Side.the-variants.{Sender, Recorder}
 use Rattle.types.specs.declared.Party.{Party}
 use Rattle.types.specs.declared.Fault.the-variants.{Fine}
-use Rattle.types.specs.declared.Door.{Door}
 use Rattle.types.specs.declared.Step.{Step}
 use Rattle.types.specs.declared.Step.the-variants.{Epoch}
 use Rattle.rules.specs.Sides.{other}
@@ -20,91 +19,100 @@ use Rattle.rules.specs.Run.{Note, Trace, World, partyIn, traced, rungOf}
 use Rattle.rules.specs.Premises.{FairTurn}
 use Rattle.rules.specs.Stretch.{Big, notesOf, beforeCopy, holdsEpoch, Underway}
 use Rattle.rules.specs.Phase.{phase}
-use Rattle.rules.proofs.Leads.{Leads, idles, finds, blocks, gives-up, copies, spills, tells, stores, owes, passes, raises, wakes, enters, stops, reads, finds-again, stays, enters-again, stops-again, returns, ends, dreams, glances, glances-again, times-out, finds-last, finds-none, closes, closes-alone, close-raises, close-wakes, shuts, shut-raises, shut-wakes, shut-raises-again, shut-wakes-again, sleeps as falls-asleep}
+use Rattle.rules.proofs.Leads.{Sight, Onward, straight, around, Leads, idles, finds, blocks, gives-up, copies, spills, tells, stores, owes, passes, raises, wakes, enters, stops, finds-spin, spins, reads, finds-again, stays, enters-again, stops-again, returns, ends, dreams, glances, glances-again, times-out, finds-last, finds-none, closes, closes-alone, close-raises, close-wakes, shuts, shut-raises, shut-wakes, shut-raises-again, shut-wakes-again, sleeps as falls-asleep}
 use Rattle.rules.proofs.Does.{does}
 use Rattle.rules.proofs.Parting.{closed-by}
 use Rattle.rules.proofs.Own.{waitsOn}
 use Rattle.rules.proofs.Costs.{Calls}
 
 -- a turn to a step before the copy comes from one
-pub before-on : (k x : ℕ) (z : Door) (m r : Bool) (b : ℕ) (s next : Step) → Leads k x z m r b s next → beforeCopy next ≡ true → beforeCopy s ≡ true
-before-on k x z m r b s next idles e = absurd (let u : _≡_ {A = ℕ} 0 1 = cc in omega arith)
-before-on k x z m r b s next (finds h) e = refl
-before-on k x z m r b s next (blocks h q) e = refl
-before-on k x z m r b s next (gives-up h q) e = absurd (let u : _≡_ {A = ℕ} 0 1 = cc in omega arith)
-before-on k x z m r b s next copies e = absurd (let u : _≡_ {A = ℕ} 0 1 = cc in omega arith)
-before-on k x z m r b s next spills e = absurd (let u : _≡_ {A = ℕ} 0 1 = cc in omega arith)
-before-on k x z m r b s next (tells h) e = absurd (let u : _≡_ {A = ℕ} 0 1 = cc in omega arith)
-before-on k x z m r b s next (stores h) e = absurd (let u : _≡_ {A = ℕ} 0 1 = cc in omega arith)
-before-on k x z m r b s next (owes h) e = absurd (let u : _≡_ {A = ℕ} 0 1 = cc in omega arith)
-before-on k x z m r b s next (passes h) e = absurd (let u : _≡_ {A = ℕ} 0 1 = cc in omega arith)
-before-on k x z m r b s next raises e = absurd (let u : _≡_ {A = ℕ} 0 1 = cc in omega arith)
-before-on k x z m r b s next wakes e = absurd (let u : _≡_ {A = ℕ} 0 1 = cc in omega arith)
-before-on k x z m r b s next (enters h) e = refl
-before-on k x z m r b s next (stops h) e = absurd (let u : _≡_ {A = ℕ} 0 1 = cc in omega arith)
-before-on k x z m r b s next reads e = refl
-before-on k x z m r b s next (finds-again h) e = refl
-before-on k x z m r b s next (stays h) e = refl
-before-on k x z m r b s next (enters-again h) e = refl
-before-on k x z m r b s next (stops-again h) e = absurd (let u : _≡_ {A = ℕ} 0 1 = cc in omega arith)
-before-on k x z m r b s next (falls-asleep h) e = refl
-before-on k x z m r b s next returns e = refl
-before-on k x z m r b s next ends e = absurd (let u : _≡_ {A = ℕ} 0 1 = cc in omega arith)
-before-on k x z m r b s next dreams e = refl
-before-on k x z m r b s next (glances h) e = refl
-before-on k x z m r b s next (glances-again h) e = refl
-before-on k x z m r b s next times-out e = refl
-before-on k x z m r b s next (finds-last h) e = refl
-before-on k x z m r b s next (finds-none h) e = absurd (let u : _≡_ {A = ℕ} 0 1 = cc in omega arith)
-before-on k x z m r b s next (closes h) e = absurd (let u : _≡_ {A = ℕ} 0 1 = cc in omega arith)
-before-on k x z m r b s next (closes-alone h) e = absurd (let u : _≡_ {A = ℕ} 0 1 = cc in omega arith)
-before-on k x z m r b s next close-raises e = absurd (let u : _≡_ {A = ℕ} 0 1 = cc in omega arith)
-before-on k x z m r b s next close-wakes e = absurd (let u : _≡_ {A = ℕ} 0 1 = cc in omega arith)
-before-on k x z m r b s next shuts e = absurd (let u : _≡_ {A = ℕ} 0 1 = cc in omega arith)
-before-on k x z m r b s next shut-raises e = absurd (let u : _≡_ {A = ℕ} 0 1 = cc in omega arith)
-before-on k x z m r b s next shut-wakes e = absurd (let u : _≡_ {A = ℕ} 0 1 = cc in omega arith)
-before-on k x z m r b s next shut-raises-again e = absurd (let u : _≡_ {A = ℕ} 0 1 = cc in omega arith)
-before-on k x z m r b s next shut-wakes-again e = absurd (let u : _≡_ {A = ℕ} 0 1 = cc in omega arith)
+pub before-on : (g : Sight) (s next : Step) → Leads g s next → beforeCopy next ≡ true → beforeCopy s ≡ true
+before-on g s next idles e = absurd (let u : _≡_ {A = ℕ} 0 1 = cc in omega arith)
+before-on g s next (finds h) e = refl
+before-on g s next (blocks h q) e = refl
+before-on g s next (gives-up h q) e = absurd (let u : _≡_ {A = ℕ} 0 1 = cc in omega arith)
+before-on g s next copies e = absurd (let u : _≡_ {A = ℕ} 0 1 = cc in omega arith)
+before-on g s next spills e = absurd (let u : _≡_ {A = ℕ} 0 1 = cc in omega arith)
+before-on g s next (tells h) e = absurd (let u : _≡_ {A = ℕ} 0 1 = cc in omega arith)
+before-on g s next (stores h) e = absurd (let u : _≡_ {A = ℕ} 0 1 = cc in omega arith)
+before-on g s next (owes h) e = absurd (let u : _≡_ {A = ℕ} 0 1 = cc in omega arith)
+before-on g s next (passes h) e = absurd (let u : _≡_ {A = ℕ} 0 1 = cc in omega arith)
+before-on g s next raises e = absurd (let u : _≡_ {A = ℕ} 0 1 = cc in omega arith)
+before-on g s next wakes e = absurd (let u : _≡_ {A = ℕ} 0 1 = cc in omega arith)
+before-on g s next (enters h o) e = refl
+before-on g s next (stops h l) e = absurd (let u : _≡_ {A = ℕ} 0 1 = cc in omega arith)
+before-on g s next (finds-spin h) e = refl
+before-on g s next (spins h o) e = refl
+before-on g s next reads e = refl
+before-on g s next (finds-again h) e = refl
+before-on g s next (stays h) e = refl
+before-on g s next (enters-again h) e = refl
+before-on g s next (stops-again h l) e = absurd (let u : _≡_ {A = ℕ} 0 1 = cc in omega arith)
+before-on g s next (falls-asleep h) e = refl
+before-on g s next returns e = refl
+before-on g s next ends e = absurd (let u : _≡_ {A = ℕ} 0 1 = cc in omega arith)
+before-on g s next dreams e = refl
+before-on g s next (glances h l) e = refl
+before-on g s next (glances-again h l) e = refl
+before-on g s next times-out e = refl
+before-on g s next (finds-last h) e = refl
+before-on g s next (finds-none h) e = absurd (let u : _≡_ {A = ℕ} 0 1 = cc in omega arith)
+before-on g s next (closes h) e = absurd (let u : _≡_ {A = ℕ} 0 1 = cc in omega arith)
+before-on g s next (closes-alone h) e = absurd (let u : _≡_ {A = ℕ} 0 1 = cc in omega arith)
+before-on g s next close-raises e = absurd (let u : _≡_ {A = ℕ} 0 1 = cc in omega arith)
+before-on g s next close-wakes e = absurd (let u : _≡_ {A = ℕ} 0 1 = cc in omega arith)
+before-on g s next shuts e = absurd (let u : _≡_ {A = ℕ} 0 1 = cc in omega arith)
+before-on g s next shut-raises e = absurd (let u : _≡_ {A = ℕ} 0 1 = cc in omega arith)
+before-on g s next shut-wakes e = absurd (let u : _≡_ {A = ℕ} 0 1 = cc in omega arith)
+before-on g s next shut-raises-again e = absurd (let u : _≡_ {A = ℕ} 0 1 = cc in omega arith)
+before-on g s next shut-wakes-again e = absurd (let u : _≡_ {A = ℕ} 0 1 = cc in omega arith)
+
+-- none is held before the look at the bell
+none-yet : (n : ℕ) (t : Step) → Onward n t → holdsEpoch t ≡ true → ⊥
+none-yet n t straight e = let u : _≡_ {A = ℕ} 0 1 = cc in omega arith
+none-yet n t (around m) e = let u : _≡_ {A = ℕ} 0 1 = cc in omega arith
 
 -- an epoch that is held was just read, or was held before
-pub epoch-on : (k x : ℕ) (z : Door) (m r : Bool) (b : ℕ) (s next : Step) → Leads k x z m r b s next → holdsEpoch next ≡ true → (s ≡ Epoch) ⊎ ((waitsOn s ≡ true) × (holdsEpoch s ≡ true))
-epoch-on k x z m r b s next idles e = absurd (let u : _≡_ {A = ℕ} 0 1 = cc in omega arith)
-epoch-on k x z m r b s next (finds h) e = absurd (let u : _≡_ {A = ℕ} 0 1 = cc in omega arith)
-epoch-on k x z m r b s next (blocks h q) e = absurd (let u : _≡_ {A = ℕ} 0 1 = cc in omega arith)
-epoch-on k x z m r b s next (gives-up h q) e = absurd (let u : _≡_ {A = ℕ} 0 1 = cc in omega arith)
-epoch-on k x z m r b s next copies e = absurd (let u : _≡_ {A = ℕ} 0 1 = cc in omega arith)
-epoch-on k x z m r b s next spills e = absurd (let u : _≡_ {A = ℕ} 0 1 = cc in omega arith)
-epoch-on k x z m r b s next (tells h) e = absurd (let u : _≡_ {A = ℕ} 0 1 = cc in omega arith)
-epoch-on k x z m r b s next (stores h) e = absurd (let u : _≡_ {A = ℕ} 0 1 = cc in omega arith)
-epoch-on k x z m r b s next (owes h) e = absurd (let u : _≡_ {A = ℕ} 0 1 = cc in omega arith)
-epoch-on k x z m r b s next (passes h) e = absurd (let u : _≡_ {A = ℕ} 0 1 = cc in omega arith)
-epoch-on k x z m r b s next raises e = absurd (let u : _≡_ {A = ℕ} 0 1 = cc in omega arith)
-epoch-on k x z m r b s next wakes e = absurd (let u : _≡_ {A = ℕ} 0 1 = cc in omega arith)
-epoch-on k x z m r b s next (enters h) e = absurd (let u : _≡_ {A = ℕ} 0 1 = cc in omega arith)
-epoch-on k x z m r b s next (stops h) e = absurd (let u : _≡_ {A = ℕ} 0 1 = cc in omega arith)
-epoch-on k x z m r b s next reads e = inl refl
-epoch-on k x z m r b s next (finds-again h) e = absurd (let u : _≡_ {A = ℕ} 0 1 = cc in omega arith)
-epoch-on k x z m r b s next (stays h) e = inr (refl, refl)
-epoch-on k x z m r b s next (enters-again h) e = inr (refl, refl)
-epoch-on k x z m r b s next (stops-again h) e = absurd (let u : _≡_ {A = ℕ} 0 1 = cc in omega arith)
-epoch-on k x z m r b s next (falls-asleep h) e = absurd (let u : _≡_ {A = ℕ} 0 1 = cc in omega arith)
-epoch-on k x z m r b s next returns e = absurd (let u : _≡_ {A = ℕ} 0 1 = cc in omega arith)
-epoch-on k x z m r b s next ends e = absurd (let u : _≡_ {A = ℕ} 0 1 = cc in omega arith)
-epoch-on k x z m r b s next dreams e = absurd (let u : _≡_ {A = ℕ} 0 1 = cc in omega arith)
-epoch-on k x z m r b s next (glances h) e = absurd (let u : _≡_ {A = ℕ} 0 1 = cc in omega arith)
-epoch-on k x z m r b s next (glances-again h) e = absurd (let u : _≡_ {A = ℕ} 0 1 = cc in omega arith)
-epoch-on k x z m r b s next times-out e = absurd (let u : _≡_ {A = ℕ} 0 1 = cc in omega arith)
-epoch-on k x z m r b s next (finds-last h) e = absurd (let u : _≡_ {A = ℕ} 0 1 = cc in omega arith)
-epoch-on k x z m r b s next (finds-none h) e = absurd (let u : _≡_ {A = ℕ} 0 1 = cc in omega arith)
-epoch-on k x z m r b s next (closes h) e = absurd (let u : _≡_ {A = ℕ} 0 1 = cc in omega arith)
-epoch-on k x z m r b s next (closes-alone h) e = absurd (let u : _≡_ {A = ℕ} 0 1 = cc in omega arith)
-epoch-on k x z m r b s next close-raises e = absurd (let u : _≡_ {A = ℕ} 0 1 = cc in omega arith)
-epoch-on k x z m r b s next close-wakes e = absurd (let u : _≡_ {A = ℕ} 0 1 = cc in omega arith)
-epoch-on k x z m r b s next shuts e = absurd (let u : _≡_ {A = ℕ} 0 1 = cc in omega arith)
-epoch-on k x z m r b s next shut-raises e = absurd (let u : _≡_ {A = ℕ} 0 1 = cc in omega arith)
-epoch-on k x z m r b s next shut-wakes e = absurd (let u : _≡_ {A = ℕ} 0 1 = cc in omega arith)
-epoch-on k x z m r b s next shut-raises-again e = absurd (let u : _≡_ {A = ℕ} 0 1 = cc in omega arith)
-epoch-on k x z m r b s next shut-wakes-again e = absurd (let u : _≡_ {A = ℕ} 0 1 = cc in omega arith)
+pub epoch-on : (g : Sight) (s next : Step) → Leads g s next → holdsEpoch next ≡ true → (s ≡ Epoch) ⊎ ((waitsOn s ≡ true) × (holdsEpoch s ≡ true))
+epoch-on g s next idles e = absurd (let u : _≡_ {A = ℕ} 0 1 = cc in omega arith)
+epoch-on g s next (finds h) e = absurd (let u : _≡_ {A = ℕ} 0 1 = cc in omega arith)
+epoch-on g s next (blocks h q) e = absurd (let u : _≡_ {A = ℕ} 0 1 = cc in omega arith)
+epoch-on g s next (gives-up h q) e = absurd (let u : _≡_ {A = ℕ} 0 1 = cc in omega arith)
+epoch-on g s next copies e = absurd (let u : _≡_ {A = ℕ} 0 1 = cc in omega arith)
+epoch-on g s next spills e = absurd (let u : _≡_ {A = ℕ} 0 1 = cc in omega arith)
+epoch-on g s next (tells h) e = absurd (let u : _≡_ {A = ℕ} 0 1 = cc in omega arith)
+epoch-on g s next (stores h) e = absurd (let u : _≡_ {A = ℕ} 0 1 = cc in omega arith)
+epoch-on g s next (owes h) e = absurd (let u : _≡_ {A = ℕ} 0 1 = cc in omega arith)
+epoch-on g s next (passes h) e = absurd (let u : _≡_ {A = ℕ} 0 1 = cc in omega arith)
+epoch-on g s next raises e = absurd (let u : _≡_ {A = ℕ} 0 1 = cc in omega arith)
+epoch-on g s next wakes e = absurd (let u : _≡_ {A = ℕ} 0 1 = cc in omega arith)
+epoch-on g s next (enters h o) e = absurd (none-yet _ next o e)
+epoch-on g s next (stops h l) e = absurd (let u : _≡_ {A = ℕ} 0 1 = cc in omega arith)
+epoch-on g s next (finds-spin h) e = absurd (let u : _≡_ {A = ℕ} 0 1 = cc in omega arith)
+epoch-on g s next (spins h o) e = absurd (none-yet _ next o e)
+epoch-on g s next reads e = inl refl
+epoch-on g s next (finds-again h) e = absurd (let u : _≡_ {A = ℕ} 0 1 = cc in omega arith)
+epoch-on g s next (stays h) e = inr (refl, refl)
+epoch-on g s next (enters-again h) e = inr (refl, refl)
+epoch-on g s next (stops-again h l) e = absurd (let u : _≡_ {A = ℕ} 0 1 = cc in omega arith)
+epoch-on g s next (falls-asleep h) e = absurd (let u : _≡_ {A = ℕ} 0 1 = cc in omega arith)
+epoch-on g s next returns e = absurd (let u : _≡_ {A = ℕ} 0 1 = cc in omega arith)
+epoch-on g s next ends e = absurd (let u : _≡_ {A = ℕ} 0 1 = cc in omega arith)
+epoch-on g s next dreams e = absurd (let u : _≡_ {A = ℕ} 0 1 = cc in omega arith)
+epoch-on g s next (glances h l) e = absurd (let u : _≡_ {A = ℕ} 0 1 = cc in omega arith)
+epoch-on g s next (glances-again h l) e = absurd (let u : _≡_ {A = ℕ} 0 1 = cc in omega arith)
+epoch-on g s next times-out e = absurd (let u : _≡_ {A = ℕ} 0 1 = cc in omega arith)
+epoch-on g s next (finds-last h) e = absurd (let u : _≡_ {A = ℕ} 0 1 = cc in omega arith)
+epoch-on g s next (finds-none h) e = absurd (let u : _≡_ {A = ℕ} 0 1 = cc in omega arith)
+epoch-on g s next (closes h) e = absurd (let u : _≡_ {A = ℕ} 0 1 = cc in omega arith)
+epoch-on g s next (closes-alone h) e = absurd (let u : _≡_ {A = ℕ} 0 1 = cc in omega arith)
+epoch-on g s next close-raises e = absurd (let u : _≡_ {A = ℕ} 0 1 = cc in omega arith)
+epoch-on g s next close-wakes e = absurd (let u : _≡_ {A = ℕ} 0 1 = cc in omega arith)
+epoch-on g s next shuts e = absurd (let u : _≡_ {A = ℕ} 0 1 = cc in omega arith)
+epoch-on g s next shut-raises e = absurd (let u : _≡_ {A = ℕ} 0 1 = cc in omega arith)
+epoch-on g s next shut-wakes e = absurd (let u : _≡_ {A = ℕ} 0 1 = cc in omega arith)
+epoch-on g s next shut-raises-again e = absurd (let u : _≡_ {A = ℕ} 0 1 = cc in omega arith)
+epoch-on g s next shut-wakes-again e = absurd (let u : _≡_ {A = ℕ} 0 1 = cc in omega arith)
 
 -- a push or a pop does not close its party
 pub stays-open : (s : Step) → Calls (phase s) → (b : Bool) → closedAfter (stanceOf s) b ≡ b

@@ -14,10 +14,10 @@ use Rattle.types.specs.declared.Answer.the-variants.{Done}
 use Rattle.types.specs.declared.Step.the-variants.{Rest}
 use Rattle.types.specs.declared.Event.the-variants.{Turn, Failing, Spurious, TimeOut, Push, Pop, Close, Shutdown}
 use Rattle.types.specs.declared.Fault.the-variants.{Fine}
-use Rattle.layout.specs.Attach.{magicOk, versionOk, sizesOk, flagChecks, ringChecks, attachChecks, attachAnswer, attachReply, attachLeaves}
+use Rattle.layout.specs.Attach.{magicOk, versionOk, sizesOk, flagChecks, ringChecks, regionChecks, attachChecks, attachAnswer, attachReply, attachLeaves}
 use Rattle.layout.specs.Create.{createAnswer, created}
 use Rattle.layout.specs.Header.{blank, headed}
-use Rattle.layout.specs.Limits.{powerOk, slotOk, capacity, payloadCapacity, ringBytes, totalBytes}
+use Rattle.layout.specs.Limits.{powerOk, slotOk, spinsOk, capacity, payloadCapacity, ringBytes, totalBytes}
 use Rattle.layout.specs.Slots.{slotAt, headOf, slotBytes, slotPut, bufferPut}
 use Rattle.rules.specs.Access.{valueOf, leavesOf, bufferOf}
 use Rattle.rules.specs.Bench.{wakened, settled, turned, played, playedLeaves}
@@ -25,7 +25,7 @@ use Rattle.rules.specs.Calls.{sound, ready, pushSpec, popSpec}
 use Rattle.rules.specs.Looks.{roomOf, wasBlocked, doorOf, fitOf, napOf}
 use Rattle.rules.specs.Next.{nextSpec}
 use Rattle.rules.specs.Run.{happens, run}
-use Rattle.rules.specs.Steps.{lookMove, copyMove, publishMove, checkMove, wakeMove, gateMove, againMove, waitMove, closeMove, shutMove}
+use Rattle.rules.specs.Steps.{lookMove, copyMove, publishMove, checkMove, wakeMove, gateMove, toSpin, spinMove, againMove, waitMove, closeMove, shutMove}
 use Rattle.rules.specs.Take.{moveOf, takeSpec}
 use Rattle.rules.specs.Turn.{goes, actSpec, actLeaves, actBuffer, turnSpec, turnLeaves}
 use Rattle.words.specs.Bytes.{zeros, bytesAre}
@@ -50,10 +50,10 @@ records = plays (Turn Recorder) [] (0 ∷ [])
 abbrev pops : Happening
 pops = plays (Pop true 1) [] []
 
--- the recorder is past an empty C1, and two pushes are done
+-- neither spins; the recorder is past an empty C1, and two pushes are done
 abbrev before : List Happening
 before =
-    attaches Sender ∷ attaches Recorder ∷ pops ∷ records
+    attaches Sender 0 ∷ attaches Recorder 0 ∷ pops ∷ records
     ∷ plays (Push false 7 1) [] [] ∷ sends ∷ sends ∷ sends ∷ sends ∷ sends ∷ sends
     ∷ plays (Push false 8 1) [] [] ∷ sends ∷ sends ∷ sends ∷ sends ∷ []
 
@@ -72,7 +72,7 @@ short-at (y ∷ delivered) x rest n e = short-at delivered x rest n (and-right (
 
 -- the recorder's bell, far from 2^32 raises; nothing fails
 abbrev calm-one : Happening → Bool
-calm-one (attaches side) = true
+calm-one (attaches side n) = true
 calm-one (plays (Turn side) i o) = true
 calm-one (plays (Failing side e) i o) = false
 calm-one (plays (Spurious side) i o) = true
@@ -91,7 +91,7 @@ calm-turn Sender w h = λ u q. refl
 calm-turn Recorder w h = λ e q. h
 
 calm-fair-one : (h : Happening) (w : World) → calm-one h ≡ true → rung Recorder w < 2 ^ 32 → Fair Recorder h w
-calm-fair-one (attaches side) w e h = tt
+calm-fair-one (attaches side n) w e h = tt
 calm-fair-one (plays (Turn side) i o) w e h = λ g. calm-turn side w h
 calm-fair-one (plays (Failing side f) i o) w e h = absurd (let z : _≡_ {A = ℕ} 0 1 = cc in omega arith)
 calm-fair-one (plays (Spurious side) i o) w e h = tt
@@ -111,7 +111,7 @@ calm-fair (h ∷ hs) w e =
 
 -- its own turns and pops, each with a buffer long enough for any note sent
 abbrev asks-one : Happening → Bool
-asks-one (attaches side) = false
+asks-one (attaches side n) = false
 asks-one (plays (Turn Sender) i o) = false
 asks-one (plays (Turn Recorder) i o) = true
 asks-one (plays (Failing side e) i o) = false
@@ -130,7 +130,7 @@ big-here : (w : World) → all-short (w .trace .sent) (partyIn w Recorder .lengt
 big-here w e = λ at n rest q. short-at (w .trace .delivered) n rest (partyIn w Recorder .length) (subst (λ (x : List Note). all-short x (partyIn w Recorder .length) ≡ true) q e)
 
 asks-will-one : (h : Happening) (w : World) → asks-one h ≡ true → Big Recorder w → Wills Recorder h w
-asks-will-one (attaches side) w e h = absurd (let z : _≡_ {A = ℕ} 0 1 = cc in omega arith)
+asks-will-one (attaches side n) w e h = absurd (let z : _≡_ {A = ℕ} 0 1 = cc in omega arith)
 asks-will-one (plays (Turn Sender) i o) w e h = absurd (let z : _≡_ {A = ℕ} 0 1 = cc in omega arith)
 asks-will-one (plays (Turn Recorder) i o) w e h = (refl, h)
 asks-will-one (plays (Failing side f) i o) w e h = absurd (let z : _≡_ {A = ℕ} 0 1 = cc in omega arith)
@@ -155,7 +155,7 @@ made = run before (opened start)
 computed :
     (createAnswer 416 1 16 ≡ Done 0 0) × (calm (before ++ ten) (opened start) ≡ true) × (asks ten made ≡ true) × (partyIn made Sender .step ≡ Rest) × (inCall (partyIn made Recorder .step) ≡ true)
     × (room Recorder (capacity 1) made ≡ 2) × (beats ten made ≡ 10) × (room Recorder (capacity 1) (run (before ++ ten) (opened start)) ≡ 1)
-unfolding magicOk versionOk sizesOk flagChecks ringChecks attachChecks attachAnswer attachReply attachLeaves createAnswer created blank headed powerOk slotOk capacity payloadCapacity ringBytes totalBytes slotAt headOf slotBytes slotPut bufferPut valueOf leavesOf bufferOf wakened settled turned played playedLeaves sound ready pushSpec popSpec roomOf wasBlocked doorOf fitOf napOf nextSpec happens run lookMove copyMove publishMove checkMove wakeMove gateMove againMove waitMove closeMove shutMove moveOf takeSpec goes actSpec actLeaves actBuffer turnSpec turnLeaves zeros bytesAre leAt leBytes putLe plus minus
+unfolding magicOk versionOk sizesOk flagChecks ringChecks regionChecks attachChecks attachAnswer attachReply attachLeaves createAnswer created blank headed powerOk slotOk spinsOk capacity payloadCapacity ringBytes totalBytes slotAt headOf slotBytes slotPut bufferPut valueOf leavesOf bufferOf wakened settled turned played playedLeaves sound ready pushSpec popSpec roomOf wasBlocked doorOf fitOf napOf nextSpec happens run lookMove copyMove publishMove checkMove wakeMove gateMove toSpin spinMove againMove waitMove closeMove shutMove moveOf takeSpec goes actSpec actLeaves actBuffer turnSpec turnLeaves zeros bytesAre leAt leBytes putLe plus minus
 computed = (refl, refl, refl, refl, refl, refl, refl, refl)
 
 typed-here : AllTyped (before ++ ten)

@@ -7,7 +7,6 @@ use Prim.Native.Nat.{ℕ, zero, suc, _+_, _-_, _^_, _<_, _≤_}
 use native.Mathlib.Omega.{arith}
 use lib.ListN.{length, length-append}
 use lib.Seq.{getD-append-seam}
-use Rattle.words.specs.Le.{leAt}
 use Rattle.types.specs.declared.Side.{Side}
 use Rattle.types.specs.declared.Side.the-variants.{Sender, Recorder}
 use Rattle.types.specs.declared.Party.{Party}
@@ -16,15 +15,12 @@ use Rattle.types.specs.declared.Event.the-variants.{Turn, Spurious, Push, Pop}
 use Rattle.types.specs.declared.Step.{Step}
 use Rattle.types.specs.declared.Step.the-variants.{Rest, Look, Epoch, Asleep}
 use Rattle.layout.specs.Limits.{powerOk, slotOk, payloadCapacity}
-use Rattle.layout.specs.Header.{flagsAt, bellAt}
 use Rattle.layout.specs.Create.{created}
-use Rattle.rules.specs.Sides.{other, rings, sleepBell}
 use Rattle.rules.specs.Take.{stanceOf}
 use Rattle.rules.specs.Next.{nextAt}
 use Rattle.rules.specs.Access.{bufferOf}
 use Rattle.rules.specs.Calls.{sound, ready, at, named, pushSpec, popSpec, spuriousSpec}
 use Rattle.rules.specs.Bench.{settled, played, playedLeaves}
-use Rattle.rules.specs.Looks.{doorOf}
 use Rattle.rules.specs.Run.{Note, Trace, World, Happening, plays, partyIn, takes, traced, happens, opened, rungOf}
 use Rattle.rules.specs.Premises.{Typed, AllTyped, Fair, AllFair}
 use Rattle.rules.specs.Stretch.{moves, tickBy, ticks, Wills, Willing, beforeCopy, holdsEpoch}
@@ -33,7 +29,7 @@ use Rattle.rules.specs.Phase.{phase}
 use Rattle.rules.proofs.Leads.{Leads}
 use Rattle.rules.proofs.Does.{does, raises as ring}
 use Rattle.rules.proofs.Seats.{moved}
-use Rattle.rules.proofs.RealTurn.{next-step, leads-here, after-turn, turn-is-after, real-turned}
+use Rattle.rules.proofs.RealTurn.{next-step, sight, leads-here, after-turn, turn-is-after, real-turned}
 use Rattle.rules.proofs.RealCalls.{seat-one}
 use Rattle.rules.proofs.RealRun.{power-fits, slot-fits, real-reached, real-happens}
 use Rattle.rules.proofs.Own.{waitsOn}
@@ -44,7 +40,7 @@ use Rattle.rules.proofs.Views.{Kind, rests, dreams as asleep, acts, kind}
 use Rattle.rules.proofs.Bound.{notes-kept, notes-own, no-store}
 use Rattle.rules.proofs.Asks.{in-call, typed-both, fair-both}
 use Rattle.rules.proofs.Sized.{blankOf, Sized, sized-turn, sized-happens, sized-run, sized-start, nothing-fits, sound-here, takes-here}
-use Rattle.rules.proofs.Real.{roomIn, nth, blank, Real}
+use Rattle.rules.proofs.Real.{nth, blank, Real}
 use Rattle.reached.proofs.Lasts.{BigFine, EpochFine, before-on, big-turn, both-notes, counts-anew, epoch-on, fair-turn, stays-open, under-way}
 
 module _ (P S v : ℕ) (on : Bool) (power-ok : powerOk P ≡ true) (slot-ok : slotOk S ≡ true) where
@@ -96,11 +92,11 @@ module _ (P S v : ℕ) (on : Bool) (power-ok : powerOk P ≡ true) (slot-ok : sl
     trail : after .trace ≡ told
     trail = trace-is P S v on power-ok slot-ok w (a .real) side lent lent Fine g
 
-    leads : Leads (roomIn P S v on side (w .trace)) (roomIn P S v on (other side) (w .trace)) (doorOf side (leAt 4 (w .region) flagsAt)) (p .blocking) (rings side on) (leAt 4 (w .region) (bellAt (sleepBell side))) s next
+    leads : Leads (sight P S v on power-ok slot-ok w (a .real) side lent lent Fine g) s next
     leads = leads-here P S v on power-ok slot-ok w (a .real) side lent lent Fine g
 
     epoch-after : EpochFine side after
-    epoch-after e = by (epoch-on _ _ _ _ _ _ s next leads (rw me at e))
+    epoch-after e = by (epoch-on _ s next leads (rw me at e))
       where
         by : (s ≡ Epoch) ⊎ ((waitsOn s ≡ true) × (holdsEpoch s ≡ true)) → rungOf side (after .trace) < 2 ^ 32
         by (inl q) =
@@ -110,7 +106,7 @@ module _ (P S v : ℕ) (on : Bool) (power-ok : powerOk P ≡ true) (slot-ok : sl
 
     big-after : BigFine side after
     big-after r e n rest q =
-        let b : beforeCopy s ≡ true = before-on _ _ _ _ _ _ s next leads (rw me at e) in
+        let b : beforeCopy s ≡ true = before-on _ s next leads (rw me at e) in
         let d = does side (p .counter) s in
         let same = both-notes side (w .trace) told (notes-own p lent buffer (w .trace) side (p .counter) s (nextAt s side (p .counter)) d (no-store beforeCopy s b (λ l g. refl))) (notes-kept p lent buffer (w .trace) side (p .counter) s (nextAt s side (p .counter)) d) in
         rw me (a .big-fine r b n rest (rw (trail, same .0, same .1) at q))
@@ -122,7 +118,7 @@ module _ (P S v : ℕ) (on : Bool) (power-ok : powerOk P ≡ true) (slot-ok : sl
           sized = subst Sized (turn-is-after P S v on power-ok slot-ok w (a .real) side lent lent Fine g) (sized-turn w side lent lent Fine (a .sized));
           here = ap (λ (q : Party). q .own .attached) me ∙ a .here;
           open-still = ap (λ (q : Party). q .closed) me ∙ stays-open s (a .calls) (p .closed) ∙ a .open-still;
-          calls = rw me (calls-on _ _ _ _ _ _ s next leads (a .calls));
+          calls = rw me (calls-on _ s next leads (a .calls));
           epoch-fine = epoch-after;
           big-fine = big-after;
         }

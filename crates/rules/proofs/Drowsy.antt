@@ -143,8 +143,8 @@ module _ (r : List ℕ) (P S : ℕ) (on : Bool) (v : ℕ) (fresh : Fresh r P S o
             (
               λ e. from-stale b a e s,
               λ ms turns long.
-              let done = exactly side (Drowsy P S v on power-ok slot-ok side) (moving P S v on power-ok slot-ok side) (turn P S v on power-ok slot-ok side) ms w turns (toSleep b a s) start long in
-              (done .0, (done .1 .0, (done .1 .1 .0, (done .1 .1 .1 .0, subst (λ (u : World). partyIn u side .step ≡ Asleep) (sym (run-parts hs (done .0) (opened (created r P S on v)))) (slept P S v on power-ok slot-ok side (run (done .0) w) (done .1 .1 .1 .1)))))),
+                  let done = exactly side (Drowsy P S v on power-ok slot-ok side) (moving P S v on power-ok slot-ok side) (turn P S v on power-ok slot-ok side) ms w turns (toSleep b a s) start long in
+                  (done .0, (done .1 .0, (done .1 .1 .0, (done .1 .1 .1 .0, subst (λ (u : World). partyIn u side .step ≡ Asleep) (sym (run-parts hs (done .0) (opened (created r P S on v)))) (slept P S v on power-ok slot-ok side (run (done .0) w) (done .1 .1 .1 .1)))))),
             ),
           ),
         ),

@@ -2,7 +2,7 @@
 // 2^30 and a slot size below 2^32.
 ghost use mathlib.Core.Path.{_≡_};
 ghost use mathlib.Core.Bool.{true};
-ghost use Rattle.layout.specs.Limits.{powerOk, slotOk, capacity, payloadCapacity, ringBytes, totalBytes};
+ghost use Rattle.layout.specs.Limits.{powerOk, slotOk, spinsOk, capacity, payloadCapacity, ringBytes, totalBytes};
 ghost use Rattle.layout.specs.Slots.{slotAt};
 
 pub struct Limits {}
@@ -17,6 +17,8 @@ impl Limits {
     pub const MOST_SLOT: u32 = 65536;
 
     pub const SLOT_STEP: u32 = 8;
+
+    pub const MOST_SPINS: u16 = 1000;
 
     pub const HEADER_BYTES: u64 = 384;
 
@@ -42,6 +44,12 @@ pub fn slot_ok(slot: u32) -> bool
         return false;
     }
     slot % Limits::SLOT_STEP == 0
+}
+
+pub fn spins_ok(spins: u16) -> bool
+    ensures { λ r. ⌜ r ≡ spinsOk spins ⌝ }
+{
+    spins <= Limits::MOST_SPINS
 }
 
 // A power above the limit has no slots.

@@ -20,6 +20,7 @@ pub fn stance_of(step: Step) -> Stance
         Step::Raise(_, _) => Stance::Moving,
         Step::Wake(_, _) => Stance::Moving,
         Step::Gate => Stance::Moving,
+        Step::Spin(_) => Stance::Moving,
         Step::Epoch => Stance::Moving,
         Step::Again(_) => Stance::Moving,
         Step::GateAgain(_) => Stance::Moving,
@@ -83,8 +84,10 @@ pub fn sound(side: Side, p: Party) -> bool
     let same = sides::same_side(side, whose);
     let power = sizes::power_ok(own.power);
     let slot = sizes::slot_ok(own.slot);
+    let spins = sizes::spins_ok(own.spins);
     let length = length_ok(side, p.length, own.slot);
-    let fits = types::both(slot, length);
+    let counts = types::both(spins, length);
+    let fits = types::both(slot, counts);
     let limits = types::both(power, fits);
     let mine = types::both(same, limits);
     types::both(own.attached, mine)

@@ -1,8 +1,8 @@
 -- Every starred case holds.
-use mathlib.Core.Path.{_≡_, refl, _∙_}
+use mathlib.Core.Path.{_≡_, refl, sym, _∙_}
 use mathlib.Core.Bool.{Bool, true, false}
 use mathlib.Core.List.{List, [], _∷_}
-use Prim.Native.Nat.{ℕ, suc, _-_, _^_, _≤_, _<_}
+use Prim.Native.Nat.{ℕ, suc, _-_, _^_, _<_}
 use native.Mathlib.Omega.{arith}
 use borrow.Author.Tests.{lt-ltb, eq-eqb}
 use lib.Dec.{ltb, lit<}
@@ -11,20 +11,20 @@ use mir.Syntax.{w32}
 use mir.Val.{toZ, sel}
 use Rattle.words.specs.Wrap.{plus, minus, next}
 use Rattle.words.proofs.Wrapped.{minus-plus}
+use Rattle.types.specs.Pick.{pick}
 use Rattle.types.specs.Answers.{firstOf}
 use Rattle.types.specs.declared.Side.{Side}
-use Rattle.types.specs.declared.Room.{Room}
-use Rattle.types.specs.declared.Room.the-variants.{Corrupt, Blocked, Free}
+use Rattle.types.specs.declared.Room.the-variants.{Corrupt}
 use Rattle.types.specs.declared.Answer.{Answer}
-use Rattle.types.specs.declared.Answer.the-variants.{Done, InvalidLayout, InvalidCapacity, InvalidSlotSize}
-use Rattle.layout.specs.Limits.{mostPower, mostSlot, powerOk, slotOk, capacity, payloadCapacity, ringBytes, totalBytes}
+use Rattle.types.specs.declared.Answer.the-variants.{Done, BadCall}
+use Rattle.layout.specs.Limits.{mostPower, mostSlot, powerOk, slotOk, spinsOk, capacity, payloadCapacity, ringBytes, totalBytes}
 use Rattle.layout.specs.Slots.{slotAt}
 use Rattle.layout.specs.Create.{createAnswer}
-use Rattle.layout.specs.Attach.{flagChecks}
+use Rattle.layout.specs.Attach.{flagChecks, regionChecks, attachChecks, attachAnswer}
 use Rattle.layout.proofs.SizeLaws.{capacity-most, slot-most, total-most}
-use Rattle.layout.proofs.Accepted.{sizeChecks, attach-headed, accepted as accepted-by}
+use Rattle.layout.proofs.Accepted.{sizeChecks, spins-taken, attach-headed, accepted as accepted-by}
 use Rattle.rules.specs.Looks.{roomWith, roomOf}
-use Rattle.starred.specs.Cases.{Case, accepted, largest, refused, flagged, used, corrupt, place, bell, Largest, CorruptAt, Raised, Holds, AllHold, starred}
+use Rattle.starred.specs.Cases.{Case, accepted, largest, refused, flagged, spinning, overspun, used, corrupt, place, bell, Largest, Spinning, Overspun, CorruptAt, Raised, Holds, AllHold, starred}
 
 -- What is left to compute of each row; the laws do the rest, so the table's sizes stand in the table alone.
 abbrev Shown : Case → Type 0
@@ -33,6 +33,8 @@ Shown (largest total payload) = (totalBytes mostPower mostSlot ≡ total) × (pa
 Shown (refused power slot answer) =
     ((bytes : ℕ) → createAnswer bytes power slot ≡ answer) × ((ring flags : ℕ) (side : Side) → firstOf (sizeChecks ring power slot flags side) ≡ answer)
 Shown (flagged flags answer) = (side : Side) → firstOf (flagChecks flags side) ≡ answer
+Shown (spinning spins) = spinsOk spins ≡ true
+Shown (overspun spins answer) = (shape : Answer) → pick (spinsOk spins) shape BadCall ≡ answer
 Shown (used capacity n sender recorder) = (n < 2 ^ 64) × (roomWith n capacity capacity ≡ sender) × (roomWith n capacity 0 ≡ recorder)
 Shown (corrupt head tail) = capacity mostPower < minus 64 head tail
 Shown (place power slot count at after) = (slotAt power slot count ≡ at) × (next 64 count ≡ after)
@@ -52,17 +54,30 @@ unfolding payloadCapacity powerOk slotOk
 most total payload t p =
     ((λ power slot power-ok slot-ok. (rw t at (total-most slot slot-ok power), omega (arith, slot-most slot slot-ok))), (mostPower, (mostSlot, (refl, (refl, (t, p))))))
 
--- What create makes of accepted sizes, attach accepts; refused sizes decide before the rest, and flags last; the start of
--- the counters does not matter.
+none-spins : spinsOk 0 ≡ true
+unfolding spinsOk
+none-spins = refl
+
+few : (spins : ℕ) → spinsOk spins ≡ true → Spinning spins
+few spins h r side = spins-taken r side spins h ∙ sym (spins-taken r side 0 none-spins)
+
+many : (spins : ℕ) (answer : Answer) → ((shape : Answer) → pick (spinsOk spins) shape BadCall ≡ answer) → Overspun spins answer
+unfolding attachAnswer attachChecks
+many spins answer c r side = c (firstOf (regionChecks r side))
+
+-- What create makes of accepted sizes, attach accepts; a count decides before all the rest, refused sizes before the rest
+-- of the header, and flags last; the start of the counters does not matter.
 shown : (c : Case) → Shown c → Holds c
 unfolding roomOf
 shown (accepted power slot total payload) (t, p, c) =
-    (t, p, c, λ r notfull start side long small. accepted-by r power slot notfull start (rw long c) small side)
+    (t, p, c, λ r notfull start side spins long small few. accepted-by r power slot notfull start (rw long c) small side spins few)
 shown (largest total payload) (t, p) = most total payload t p
-shown (refused power slot answer) (c, s) = (c, λ r ring flags start side f. attach-headed r ring power slot flags start f side ∙ s ring flags side)
-shown (flagged flags answer) c = λ r power slot start side p s f.
-    attach-headed r (ringBytes power slot) power slot flags start f side
+shown (refused power slot answer) (c, s) = (c, λ r ring flags start side spins f few. attach-headed r ring power slot flags start f side spins few ∙ s ring flags side)
+shown (flagged flags answer) c = λ r power slot start side spins p s few f.
+    attach-headed r (ringBytes power slot) power slot flags start f side spins few
     ∙ rw (s, p, eq-eqb (ringBytes power slot) (ringBytes power slot) refl) (c side)
+shown (spinning spins) h = few spins h
+shown (overspun spins answer) c = many spins answer c
 shown (used capacity n sender recorder) (h, s, r) = λ tail t. rw (minus-plus 64 tail n (omega arith) h) (s, r)
 shown (corrupt head tail) h = far head tail h
 shown (place power slot count at after) e = e
@@ -102,7 +117,7 @@ unfolding plus
 top n h e = rw (reading-most n e)
 
 pub holds : AllHold starred
-unfolding createAnswer slotOk powerOk capacity payloadCapacity ringBytes totalBytes slotAt flagChecks plus minus
+unfolding createAnswer slotOk powerOk spinsOk capacity payloadCapacity ringBytes totalBytes slotAt flagChecks plus minus
 holds =
     all-shown {cs = starred}
     ((refl, refl, refl)
@@ -121,4 +136,6 @@ holds =
     ⁏ minus-one
     ⁏ top
     ⁏ (λ s. refl)
+    ⁏ refl
+    ⁏ (λ a. refl)
     ⁏ end)

@@ -1,4 +1,4 @@
--- Document 01's starred cases, at the limits of request (iv): a table, and what each row claims.
+-- Document 01's starred cases, at the limits of requests (iv) and (v): a table, and what each row claims.
 use mathlib.Core.Path.{_≡_}
 use mathlib.Core.Bool.{Bool, true}
 use mathlib.Core.List.{List, [], _∷_}
@@ -13,8 +13,8 @@ use Rattle.types.specs.declared.Side.the-variants.{Sender, Recorder}
 use Rattle.types.specs.declared.Room.{Room}
 use Rattle.types.specs.declared.Room.the-variants.{Corrupt, Blocked, Free}
 use Rattle.types.specs.declared.Answer.{Answer}
-use Rattle.types.specs.declared.Answer.the-variants.{Done, InvalidLayout, InvalidCapacity, InvalidSlotSize}
-use Rattle.layout.specs.Limits.{powerOk, slotOk, capacity, payloadCapacity, ringBytes, totalBytes}
+use Rattle.types.specs.declared.Answer.the-variants.{Done, InvalidLayout, InvalidCapacity, InvalidSlotSize, BadCall}
+use Rattle.layout.specs.Limits.{powerOk, slotOk, spinsOk, capacity, payloadCapacity, ringBytes, totalBytes}
 use Rattle.layout.specs.Header.{headed}
 use Rattle.layout.specs.Slots.{slotAt}
 use Rattle.layout.specs.Create.{createAnswer, created}
@@ -31,6 +31,10 @@ pub data Case : Type 0 where
   refused : (power slot : ℕ) → Answer → Case
   -- flags that attach refuses
   flagged : (flags : ℕ) → Answer → Case
+  -- a spin count that attach takes
+  spinning : (spins : ℕ) → Case
+  -- a spin count that attach refuses
+  overspun : (spins : ℕ) → Answer → Case
   -- so many used, at a capacity: what the sender finds, and what the recorder finds
   used : (capacity n : ℕ) → (sender recorder : Room) → Case
   -- head and tail that are corrupt
@@ -58,16 +62,19 @@ starred =
     ∷ bell (negsuc 0) (pos 0)
     ∷ bell (pos 2147483647) (negsuc 2147483647)
     ∷ flagged 0x80 InvalidLayout
+    ∷ spinning 1000
+    ∷ overspun 1001 BadCall
     ∷ []
 
--- a region of any bytes of that total: create accepts it, and attach what create made, for either side
+-- a region of any bytes of that total: create accepts it, and attach what create made, for either side with any count
+-- within the limit
 abbrev pub Accepted : (power slot total payload : ℕ) → Type 0
 Accepted power slot total payload =
     (totalBytes power slot ≡ total)
     × (payloadCapacity slot ≡ payload)
     × (createAnswer total power slot ≡ Done 0 0)
-    × ((r : List ℕ) (notfull : Bool) (start : ℕ) (side : Side) → length r ≡ total → start < 256 ^ 8
-    → attachAnswer (created r power slot notfull start) side ≡ Done 0 0)
+    × ((r : List ℕ) (notfull : Bool) (start : ℕ) (side : Side) (spins : ℕ) → length r ≡ total → start < 256 ^ 8 → spinsOk spins ≡ true
+    → attachAnswer (created r power slot notfull start) side spins ≡ Done 0 0)
 
 -- no sizes within the limits have more, and some have as much
 abbrev pub Largest : (total payload : ℕ) → Type 0
@@ -79,14 +86,21 @@ Largest total payload =
 abbrev pub Refused : (power slot : ℕ) → Answer → Type 0
 Refused power slot answer =
     ((bytes : ℕ) → createAnswer bytes power slot ≡ answer)
-    × ((r : List ℕ) (ring flags start : ℕ) (side : Side) → Fitting r ring power slot flags start
-    → attachAnswer (headed r ring power slot flags start) side ≡ answer)
+    × ((r : List ℕ) (ring flags start : ℕ) (side : Side) (spins : ℕ) → Fitting r ring power slot flags start → spinsOk spins ≡ true
+    → attachAnswer (headed r ring power slot flags start) side spins ≡ answer)
 
 -- attach refuses any whole header with sizes within the limits and those flags
 abbrev pub Flagged : ℕ → Answer → Type 0
 Flagged flags answer =
-    (r : List ℕ) (power slot start : ℕ) (side : Side) → powerOk power ≡ true → slotOk slot ≡ true → Fitting r (ringBytes power slot) power slot flags start
-    → attachAnswer (headed r (ringBytes power slot) power slot flags start) side ≡ answer
+    (r : List ℕ) (power slot start : ℕ) (side : Side) (spins : ℕ) → powerOk power ≡ true → slotOk slot ≡ true → spinsOk spins ≡ true → Fitting r (ringBytes power slot) power slot flags start
+    → attachAnswer (headed r (ringBytes power slot) power slot flags start) side spins ≡ answer
+
+-- over any region at all, of either side: what is answered without spins
+abbrev pub Spinning : ℕ → Type 0
+Spinning spins = (r : List ℕ) (side : Side) → attachAnswer r side spins ≡ attachAnswer r side 0
+
+abbrev pub Overspun : ℕ → Answer → Type 0
+Overspun spins answer = (r : List ℕ) (side : Side) → attachAnswer r side spins ≡ answer
 
 -- from any start of both counters
 abbrev pub Used : (capacity n : ℕ) → (sender recorder : Room) → Type 0
@@ -107,6 +121,8 @@ Holds (accepted power slot total payload) = Accepted power slot total payload
 Holds (largest total payload) = Largest total payload
 Holds (refused power slot answer) = Refused power slot answer
 Holds (flagged flags answer) = Flagged flags answer
+Holds (spinning spins) = Spinning spins
+Holds (overspun spins answer) = Overspun spins answer
 Holds (used capacity n sender recorder) = Used capacity n sender recorder
 Holds (corrupt head tail) = CorruptAt head tail
 Holds (place power slot count at after) = (slotAt power slot count ≡ at) × (next 64 count ≡ after)

@@ -1,6 +1,8 @@
 // Where a turn of a push or a pop leads, a function a step. A party's own copy of sizes and options is `own`.
 ghost use mathlib.Core.Path.{_≡_};
 ghost use Rattle.types.specs.Pick.{pick};
+ghost use Rattle.layout.specs.Limits.{capacity};
+ghost use Rattle.rules.specs.Looks.{roomOf};
 ghost use Rattle.rules.specs.Steps.{roomMove, blockedMove, lookMove, fitMove, copyWith, copyMove, publishMove, checkMove, unlessFailed, wakeMove};
 use looks::Error;
 use types::Answer;
@@ -10,6 +12,15 @@ use types::Own;
 use types::Room;
 use types::Side;
 use types::Step;
+
+// What the other side's counter says to a party.
+pub fn room_here(own: Own, counter: u64, their: u64) -> Room
+    ensures { λ r. ⌜ r ≡ roomOf (own .side) (capacity (own .power)) counter their ⌝ }
+{
+    let side = own.side;
+    let capacity = sizes::capacity(own.power);
+    rooms::room_of(side, capacity, counter, their)
+}
 
 // Corruption begins a shutdown.
 pub fn room_move(room: Room, blocked: Move) -> Move
@@ -45,8 +56,7 @@ pub fn look_move(own: Own, counter: u64, blocking: bool, their: u64) -> Move
     ensures { λ r. ⌜ r ≡ lookMove own counter blocking their ⌝ }
 {
     let side = own.side;
-    let capacity = sizes::capacity(own.power);
-    let room = rooms::room_of(side, capacity, counter, their);
+    let room = room_here(own, counter, their);
     let blocked = blocked_move(blocking, side);
     room_move(room, blocked)
 }

@@ -6,7 +6,7 @@ use Rattle.types.specs.Answers.{toldOf}
 use Rattle.types.specs.declared.Side.{Side}
 use Rattle.types.specs.declared.Side.the-variants.{Sender, Recorder}
 use Rattle.types.specs.declared.Step.{Step}
-use Rattle.types.specs.declared.Step.the-variants.{Rest, Look, Copy, Publish, Check, Raise, Wake, Gate, Epoch, Again, GateAgain, Wait, Asleep, LastLook, CloseSet, CloseRaise, CloseWake, ShutSet, ShutRaiseNe, ShutWakeNe, ShutRaiseNf, ShutWakeNf}
+use Rattle.types.specs.declared.Step.the-variants.{Rest, Look, Copy, Publish, Check, Raise, Wake, Gate, Spin, Epoch, Again, GateAgain, Wait, Asleep, LastLook, CloseSet, CloseRaise, CloseWake, ShutSet, ShutRaiseNe, ShutWakeNe, ShutRaiseNf, ShutWakeNf}
 use Rattle.types.specs.declared.Own.{Own}
 use Rattle.types.specs.declared.Party.{Party}
 use Rattle.types.specs.declared.Told.{Told}
@@ -48,6 +48,7 @@ standOf (Check length tag) = 4
 standOf (Raise length tag) = 5
 standOf (Wake length tag) = 6
 standOf Gate = 7
+standOf (Spin left) = 22
 standOf Epoch = 8
 standOf (Again epoch) = 9
 standOf (GateAgain epoch) = 10
@@ -65,7 +66,7 @@ standOf (ShutWakeNf corrupt error) = 20
 
 -- every field of a record, the step apart: who reads a report wants to see that one as it is
 unfoldable pub ownSum : Own → ℕ
-ownSum o = mix (mix (mix (mix (whose (o .side)) (bit (o .attached))) (o .power)) (o .slot)) (bit (o .notfull))
+ownSum o = mix (mix (mix (mix (mix (whose (o .side)) (bit (o .attached))) (o .power)) (o .slot)) (bit (o .notfull))) (o .spins)
 
 unfoldable pub partySum : Party → ℕ
 partySum p = mix (mix (mix (mixWide (mix (ownSum (p .own)) (bit (p .closed))) (p .counter)) (bit (p .blocking))) (p .tag)) (p .length)

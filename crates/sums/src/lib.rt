@@ -69,6 +69,7 @@ fn stand_of(step: Step) -> u32
         Step::Raise(_, _) => 5,
         Step::Wake(_, _) => 6,
         Step::Gate => 7,
+        Step::Spin(_) => 22,
         Step::Epoch => 8,
         Step::Again(_) => 9,
         Step::GateAgain(_) => 10,
@@ -93,7 +94,8 @@ fn own_sum(own: Own) -> u32
     let attached = mix(whose(side), own.attached as u32);
     let power = mix(attached, own.power as u32);
     let slot = mix(power, own.slot);
-    mix(slot, own.notfull as u32)
+    let option = mix(slot, own.notfull as u32);
+    mix(option, own.spins as u32)
 }
 
 fn party_sum(p: Party) -> u32

@@ -11,7 +11,7 @@ use Rattle.types.specs.declared.Side.the-variants.{Sender, Recorder}
 use Rattle.types.specs.declared.Party.{Party}
 use Rattle.types.specs.declared.Fault.{Fault}
 use Rattle.types.specs.declared.Step.{Step}
-use Rattle.layout.specs.Limits.{powerOk, slotOk, payloadCapacity, totalBytes}
+use Rattle.layout.specs.Limits.{powerOk, slotOk, spinsOk, payloadCapacity, totalBytes}
 use Rattle.types.specs.declared.Access.{Access}
 use Rattle.rules.proofs.Does.{Does, does, nothing, looks, flags, reads as epoch, writes, takes, stores as store, raises as ring, closes as close, shuts as shut, waits as wait, wakes as wake}
 use Rattle.rules.specs.Sides.{sameSide}
@@ -59,7 +59,7 @@ module _ (side : Side) (p : Party) (region payload buffer : ℕ) (fault : Fault)
   unfolding goes
   lent-ok = and-right (sound side p) _ go
 
-  sizes-ok : (sameSide side (p .own .side) && (powerOk (p .own .power) && (slotOk (p .own .slot) && lengthOk side (p .length) (p .own .slot)))) ≡ true
+  sizes-ok : (sameSide side (p .own .side) && (powerOk (p .own .power) && (slotOk (p .own .slot) && (spinsOk (p .own .spins) && lengthOk side (p .length) (p .own .slot))))) ≡ true
   unfolding sound
   sizes-ok = and-right (p .own .attached) _ record-ok
 
@@ -68,6 +68,7 @@ module _ (side : Side) (p : Party) (region payload buffer : ℕ) (fault : Fault)
   fitted =
       let sizes = and-right (sameSide side (p .own .side)) _ sizes-ok in
       let slots = and-right (powerOk (p .own .power)) _ sizes in
+      let counts = and-right (slotOk (p .own .slot)) _ slots in
       let copy = and-left (lentOk (stanceOf (p .step)) (lentTo side payload buffer) (p .length)) (faultOk fault) (and-right (eqb region (totalBytes (p .own .power) (p .own .slot))) _ lent-ok) in
       record {
         sized = record {
@@ -76,5 +77,5 @@ module _ (side : Side) (p : Party) (region payload buffer : ℕ) (fault : Fault)
           whole = eqb-true region (totalBytes (p .own .power) (p .own .slot)) (and-left (eqb region (totalBytes (p .own .power) (p .own .slot))) _ lent-ok);
         };
         lent = lent-at (p .counter) (p .own .slot) payload (p .length) buffer side (p .own .side)
-            (and-left (sameSide side (p .own .side)) _ sizes-ok) (and-right (slotOk (p .own .slot)) _ slots) (p .step) copy;
+            (and-left (sameSide side (p .own .side)) _ sizes-ok) (and-right (spinsOk (p .own .spins)) _ counts) (p .step) copy;
       }

@@ -1,7 +1,7 @@
 // Where a turn of a wait, a close or a shutdown leads, a function a step.
 ghost use mathlib.Core.Path.{_≡_};
 ghost use Rattle.types.specs.Pick.{pick};
-ghost use Rattle.rules.specs.Steps.{leftMove, doorMove, gateMove, againMove, napMove, waitMove, lastMove, closeMove, shutMove};
+ghost use Rattle.rules.specs.Steps.{leftMove, doorMove, gateMove, toSpin, spinMove, againMove, napMove, waitMove, lastMove, closeMove, shutMove};
 use types::Answer;
 use types::Bell;
 use types::Door;
@@ -41,13 +41,30 @@ pub fn gate_move(own: Own, flags: u64, onward: Step) -> Move
     door_move(door, side, onward)
 }
 
+// So many spins are left before B2 and W2. A spin carries how many follow it.
+pub fn to_spin(spins: u16) -> Step
+    ensures { λ r. ⌜ r ≡ toSpin spins ⌝ }
+{
+    if spins == 0 {
+        return Step::Epoch;
+    }
+    Step::Spin(spins - 1)
+}
+
+// A spin looks as P1 and C1 do, and spins on over no room.
+pub fn spin_move(own: Own, counter: u64, their: u64, spins: u16) -> Move
+    ensures { λ r. ⌜ r ≡ spinMove own counter their spins ⌝ }
+{
+    let room = steps::room_here(own, counter, their);
+    let onward = to_spin(spins);
+    steps::room_move(room, Move::To(onward))
+}
+
 // B3 and W3.
 pub fn again_move(own: Own, counter: u64, their: u64, epoch: u32) -> Move
     ensures { λ r. ⌜ r ≡ againMove own counter their epoch ⌝ }
 {
-    let side = own.side;
-    let capacity = sizes::capacity(own.power);
-    let room = rooms::room_of(side, capacity, counter, their);
+    let room = steps::room_here(own, counter, their);
     steps::room_move(room, Move::To(Step::GateAgain(epoch)))
 }
 
@@ -87,9 +104,7 @@ fn last_answer(timed: bool) -> Answer
 pub fn last_move(own: Own, counter: u64, their: u64, timed: bool) -> Move
     ensures { λ r. ⌜ r ≡ lastMove own counter their timed ⌝ }
 {
-    let side = own.side;
-    let capacity = sizes::capacity(own.power);
-    let room = rooms::room_of(side, capacity, counter, their);
+    let room = steps::room_here(own, counter, their);
     let answer = last_answer(timed);
     steps::room_move(room, Move::End(answer))
 }

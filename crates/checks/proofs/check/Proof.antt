@@ -1,12 +1,12 @@
 use borrow.Author.Needs.{needs}
 use borrow.Author.Tests.{le-leb, eq-eqb, ne-eqb}
 use Rattle.checks.proofs.Tests.{passed, refused}
-use Rattle.layout.specs.Attach.{attachAnswer, attachChecks}
+use Rattle.layout.specs.Attach.{regionChecks}
 use Rattle.checks.proofs.check.Statement.{statement}
 use Rattle.checks.proofs.check.Tie as tie
 
 returns : tie.Need-returns
-unfolding attachAnswer attachChecks
+unfolding regionChecks
 returns c =
     simp (
       le-leb _ _ (c .before .before .before .pre),
@@ -14,7 +14,7 @@ returns c =
     )
 
 returns-2 : tie.Need-returns-2
-unfolding attachAnswer attachChecks
+unfolding regionChecks
 returns-2 c =
     simp (
       le-leb _ _ (c .before .before .before .before .before .pre),
@@ -23,7 +23,7 @@ returns-2 c =
     )
 
 returns-3 : tie.Need-returns-3
-unfolding attachAnswer attachChecks
+unfolding regionChecks
 returns-3 c =
     simp (
       le-leb _ _ (c .before .before .before .before .before .before .before .pre),
@@ -34,7 +34,7 @@ returns-3 c =
     )
 
 returns-4 : tie.Need-returns-4
-unfolding attachAnswer attachChecks
+unfolding regionChecks
 returns-4 c =
     simp (
       le-leb _ _ (c .before .before .before .before .before .before .before .before .before .pre),
@@ -46,7 +46,7 @@ returns-4 c =
     )
 
 returns-5 : tie.Need-returns-5
-unfolding attachAnswer attachChecks
+unfolding regionChecks
 returns-5 c =
     simp (
       le-leb _ _ (c .before .before .before .before .before .before .before .before .before .before .pre),

@@ -5,13 +5,12 @@ use Rattle.waits.proofs.last_move.Tie as tie
 
 returns : tie.Need-returns
 unfolding lastMove
-returns c = rw (c .room-move .ensures, c .before .last-answer .ensures, c .before .before .room-of .ensures, c .before .before .before .capacity .ensures)
+returns c = rw (c .room-move .ensures, c .before .last-answer .ensures, c .before .before .room-here .ensures)
 
 pub last-move-spec : {M : Type 1} → statement M
 last-move-spec =
     tie.close
     (tie.spec
-    (λ c κs. search needs)
     (λ c κs. search needs)
     (λ c κs. search needs)
     (λ c κs. search needs)
