@@ -126,6 +126,18 @@ fn a_proof_that_fails_fails_the_gate() {
     failed("silent", 2, &Tools { prove, ..GOOD });
 }
 
+/// An edit that is refused where it breaks the text shows nothing of a proof.
+#[test]
+fn an_edit_that_no_proof_refuses_fails_the_gate() {
+    let prove = "echo 'must-fail a/b: refused, as it must be (first at proofs/A.antt:1:2; 3 s)'; \
+                 echo 'must-fail a/c: refused, as it must be (first at specs/A.antt:4:5; 6 s)'; \
+                 echo '7 passed, 0 failed'";
+    let lines = failed("broken", 1, &Tools { prove, ..GOOD });
+    assert_eq!(lines[2], "gate: these edits are refused by no proof:");
+    assert!(lines[3].starts_with("must-fail a/c"), "{}", lines[3]);
+    assert_eq!(lines.len(), 5);
+}
+
 /// The tests run beside the proofs: what they say is shown once the proofs have been, and nothing is
 /// compared any more.
 #[test]

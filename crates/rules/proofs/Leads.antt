@@ -228,29 +228,29 @@ Tells own g c v (ShutRaiseNf q f) = Unit
 Tells own g c v (ShutWakeNf q f) = Unit
 
 -- what stands around a turn of a party with that copy of sizes and options
-abbrev pub around-it : Own → (room theirs : ℕ) → Door → (blocking : Bool) → (bell : ℕ) → Sight
-around-it own k x z m b = record { side = own .side; room = k; theirs = x; door = z; blocking = m; rings = rings (own .side) (own .notfull); bell = b; spins = own .spins }
+abbrev pub sightOf : Own → (room theirs : ℕ) → Door → (blocking : Bool) → (bell : ℕ) → Sight
+sightOf own k x z m b = record { side = own .side; room = k; theirs = x; door = z; blocking = m; rings = rings (own .side) (own .notfull); bell = b; spins = own .spins }
 
-pub leads : (own : Own) (k x : ℕ) (z : Door) (b c : ℕ) (m : Bool) (l v f : ℕ) (s : Step) → Tells own (around-it own k x z m b) c v s
-    → Leads (around-it own k x z m b) s (stepAfter (moveAt s own c m l v f) s)
+pub leads : (own : Own) (k x : ℕ) (z : Door) (b c : ℕ) (m : Bool) (l v f : ℕ) (s : Step) → Tells own (sightOf own k x z m b) c v s
+    → Leads (sightOf own k x z m b) s (stepAfter (moveAt s own c m l v f) s)
 unfolding lookMove copyMove publishMove checkMove wakeMove gateMove spinMove againMove waitMove lastMove closeMove shutMove
 leads own k x z b c m l v f Rest h = idles
-leads own k x z b c m l v f Look h = rw h (look-leads (around-it own k x z m b) (own .side) k refl m refl)
-leads own k x z b c m l v f Copy h = copy-leads (around-it own k x z m b) (own .side) (fitOf (headOf v) (payloadCapacity (own .slot)) l) (headOf v .length) (headOf v .tag)
-leads own k x z b c m l v f (Publish n t) h = publish-leads (around-it own k x z m b) n t (rings (own .side) (own .notfull)) refl
-leads own k x z b c m l v f (Check n t) h = rw h (check-leads (around-it own k x z m b) n t (eqb x 1) refl)
+leads own k x z b c m l v f Look h = rw h (look-leads (sightOf own k x z m b) (own .side) k refl m refl)
+leads own k x z b c m l v f Copy h = copy-leads (sightOf own k x z m b) (own .side) (fitOf (headOf v) (payloadCapacity (own .slot)) l) (headOf v .length) (headOf v .tag)
+leads own k x z b c m l v f (Publish n t) h = publish-leads (sightOf own k x z m b) n t (rings (own .side) (own .notfull)) refl
+leads own k x z b c m l v f (Check n t) h = rw h (check-leads (sightOf own k x z m b) n t (eqb x 1) refl)
 leads own k x z b c m l v f (Raise n t) h = raises
 leads own k x z b c m l v f (Wake n t) h = wakes
-leads own k x z b c m l v f Gate h = rw h (gate-leads (around-it own k x z m b) (own .side) refl z refl)
-leads own k x z b c m l v f (Spin n) h = rw h (spin-leads (around-it own k x z m b) n k refl)
+leads own k x z b c m l v f Gate h = rw h (gate-leads (sightOf own k x z m b) (own .side) refl z refl)
+leads own k x z b c m l v f (Spin n) h = rw h (spin-leads (sightOf own k x z m b) n k refl)
 leads own k x z b c m l v f Epoch h = rw h reads
-leads own k x z b c m l v f (Again e) h = rw h (again-leads (around-it own k x z m b) e k refl)
-leads own k x z b c m l v f (GateAgain e) h = rw h (gate-again-leads (around-it own k x z m b) (own .side) refl e z refl)
+leads own k x z b c m l v f (Again e) h = rw h (again-leads (sightOf own k x z m b) e k refl)
+leads own k x z b c m l v f (GateAgain e) h = rw h (gate-again-leads (sightOf own k x z m b) (own .side) refl e z refl)
 leads own k x z b c m l v f (Wait e) h =
-    wait-leads (around-it own k x z m b) e (waitOp (sleepBell (own .side))) f (napOf f (eqb v e)) (λ q. sym h ∙ eqb-true v e (nap-sleeps f (eqb v e) q))
+    wait-leads (sightOf own k x z m b) e (waitOp (sleepBell (own .side))) f (napOf f (eqb v e)) (λ q. sym h ∙ eqb-true v e (nap-sleeps f (eqb v e) q))
 leads own k x z b c m l v f Asleep h = dreams
-leads own k x z b c m l v f (LastLook q) h = rw h (last-leads (around-it own k x z m b) q k refl)
-leads own k x z b c m l v f CloseSet h = close-leads (around-it own k x z m b) (rings (own .side) (own .notfull)) refl
+leads own k x z b c m l v f (LastLook q) h = rw h (last-leads (sightOf own k x z m b) q k refl)
+leads own k x z b c m l v f CloseSet h = close-leads (sightOf own k x z m b) (rings (own .side) (own .notfull)) refl
 leads own k x z b c m l v f CloseRaise h = close-raises
 leads own k x z b c m l v f CloseWake h = close-wakes
 leads own k x z b c m l v f (ShutSet q) h = shuts

@@ -39,7 +39,7 @@ use Rattle.rules.specs.Run.{Note, Trace, World, partyIn, takes, traced, 
 use Rattle.rules.specs.Phase.{copying, looking, phase}
 use Rattle.rules.proofs.Views.{is-copy}
 use Rattle.rules.proofs.Rooms.{asRoom, sender-sees, recorder-sees, sender-checks, recorder-checks}
-use Rattle.rules.proofs.Leads.{Sight, around-it, Leads, Tells, leads}
+use Rattle.rules.proofs.Leads.{Sight, sightOf, Leads, Tells, leads}
 use Rattle.rules.proofs.Does.{Does, does}
 use Rattle.rules.proofs.After.{bell-after, bell-by-small}
 use Rattle.rules.proofs.Kept.{header-in, fixed-kept, counts-own, counts-other, word-own, word-other}
@@ -59,7 +59,7 @@ both-sides Recorder F x y Recorder = x
 
 -- what stands around a side's turn, in the region's bytes and in the trace
 abbrev pub sightAt : (P S v : ℕ) (on : Bool) → Side → Own → List ℕ → Trace → (blocking : Bool) → Sight
-sightAt P S v on side own r t blocking = around-it own (roomIn P S v on side t) (roomIn P S v on (other side) t) (doorOf side (leAt 4 r flagsAt)) blocking (leAt 4 r (bellAt (sleepBell side)))
+sightAt P S v on side own r t blocking = sightOf own (roomIn P S v on side t) (roomIn P S v on (other side) t) (doorOf side (leAt 4 r flagsAt)) blocking (leAt 4 r (bellAt (sleepBell side)))
 
 module _ (P S v : ℕ) (on : Bool) (power-ok : powerOk P ≡ true) (slot-ok : slotOk S ≡ true) where
   -- what the counters, the flags and the bell tell a side
