@@ -5,7 +5,7 @@ use mathlib.Core.List.{List}
 use Prim.Native.Nat.{ℕ, _<_, _≤_}
 use native.Mathlib.Omega.{arith}
 use borrow.Author.Tests.{lt-leb, leb-true, leb-false, eq-eqb, ne-eqb}
-use lib.Dec.{eqb, leb}
+use lib.Dec.{leb}
 use lib.ListN.{length}
 use Rattle.words.specs.Le.{leAt, putLe}
 use Rattle.types.specs.Pick.{pick}
@@ -14,7 +14,7 @@ use Rattle.types.specs.declared.Side.{Side}
 use Rattle.types.specs.declared.Party.{Party}
 use Rattle.types.specs.declared.Reply.{Reply}
 use Rattle.types.specs.declared.Answer.{Answer}
-use Rattle.types.specs.declared.Answer.the-variants.{Done, InvalidLayout, BadCall}
+use Rattle.types.specs.declared.Answer.the-variants.{InvalidLayout, BadCall}
 use Rattle.layout.specs.Limits.{headerBytes, spinsOk}
 use Rattle.layout.specs.Flags.{worth, setBit, attachMark}
 use Rattle.layout.specs.Header.{flagsAt}

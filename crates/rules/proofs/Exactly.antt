@@ -61,3 +61,33 @@ module _ (side : Side) (F : ℕ → World → Type 0)
   exactly (plays (Pop b k) i o ∷ ms) w m n d l = absurd m
   exactly (plays (Close mover) i o ∷ ms) w m n d l = absurd m
   exactly (plays (Shutdown mover) i o ∷ ms) w m n d l = absurd m
+
+  -- where the last turn moves too, so many turns leave so many fewer
+  module _ (last : (w : World) → F 0 w → moves (stanceOf (partyIn w side .step)) ≡ true) where
+    always : (n : ℕ) (w : World) → F n w → moves (stanceOf (partyIn w side .step)) ≡ true
+    always zero w d = last w d
+    always (suc n) w d = moving n w d
+
+    pub counted-off : (ms : List Happening) (w : World) → Turns side ms → (n : ℕ) → F (ticks ms w + n) w → F n (run ms w)
+    unfolding run happens played playedLeaves
+    counted-off [] w m n d = let e : 0 + n ≡ n = omega arith in subst (λ (k : ℕ). F k w) e d
+    counted-off (attaches mover spins ∷ ms) w m n d = absurd m
+    counted-off (plays (Turn mover) i o ∷ ms) w m n d =
+        subst (λ (τ : Side). F (ticks (plays (Turn τ) i o ∷ ms) w + n) w → F n (run (plays (Turn τ) i o ∷ ms) w)) (sym (m .0)) (by (λ u. counted-off ms u (m .1) n) (takes w side i o Fine) refl) d
+      where
+        by : ((u : World) → F (ticks ms u + n) u → F n (run ms u)) → (b : Bool) → takes w side i o Fine ≡ b → F (ticks (plays (Turn side) i o ∷ ms) w + n) w → F n (run ms (turnWorld w side i o Fine))
+        by go false g d =
+            let k = ticks ms (turnWorld w side i o Fine) in
+            let e : counts moves w i o + k + n ≡ k + n = omega (arith, refused-count moves w i o g) in
+            go (turnWorld w side i o Fine) (subst (F (k + n)) (sym (turn-refused w side i o Fine g)) (subst (λ (j : ℕ). F j w) e d))
+        by go true g d =
+            let k = ticks ms (turnWorld w side i o Fine) in
+            let e : counts moves w i o + k + n ≡ suc (k + n) = omega (arith, taken-count moves w i o g (always _ w d)) in
+            go (turnWorld w side i o Fine) (turn (k + n) w (subst (λ (j : ℕ). F j w) e d) i o g)
+    counted-off (plays (Failing mover e) i o ∷ ms) w m n d = absurd m
+    counted-off (plays (Spurious mover) i o ∷ ms) w m n d = absurd m
+    counted-off (plays (TimeOut mover) i o ∷ ms) w m n d = absurd m
+    counted-off (plays (Push b t k) i o ∷ ms) w m n d = absurd m
+    counted-off (plays (Pop b k) i o ∷ ms) w m n d = absurd m
+    counted-off (plays (Close mover) i o ∷ ms) w m n d = absurd m
+    counted-off (plays (Shutdown mover) i o ∷ ms) w m n d = absurd m

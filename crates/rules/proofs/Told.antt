@@ -1,12 +1,10 @@
 -- T10: and it is told, at the third turn of a blocking pop that finds nothing.
 use mathlib.Core.Path.{_≡_, refl, sym, ap, _∙_, subst}
-use mathlib.Core.Bool.{Bool, true, false, _&&_}
-use mathlib.Core.List.{List, [], _∷_}
-use Prim.Native.Nat.{ℕ, zero, suc, _+_, _<_}
+use mathlib.Core.Bool.{Bool, true, false}
+use mathlib.Core.List.{List}
+use Prim.Native.Nat.{ℕ, zero, suc, _+_, _≤_}
 use native.Mathlib.Omega.{arith}
 use Rattle.words.specs.Le.{leAt}
-use Rattle.types.specs.Pick.{pick}
-use Rattle.types.specs.declared.Side.{Side}
 use Rattle.types.specs.declared.Side.the-variants.{Recorder}
 use Rattle.types.specs.declared.Own.{Own}
 use Rattle.types.specs.declared.Party.{Party}
@@ -15,7 +13,6 @@ use Rattle.types.specs.declared.Room.the-variants.{Blocked}
 use Rattle.types.specs.declared.Door.the-variants.{Left}
 use Rattle.types.specs.declared.Step.{Step}
 use Rattle.types.specs.declared.Step.the-variants.{Look, Gate, LastLook}
-use Rattle.types.specs.declared.Event.the-variants.{Turn, Failing, Spurious, TimeOut, Push, Pop, Close, Shutdown}
 use Rattle.types.specs.declared.Answer.the-variants.{Closed}
 use Rattle.layout.specs.Limits.{powerOk, slotOk, capacity}
 use Rattle.layout.specs.Header.{flagsAt}
@@ -26,28 +23,28 @@ use Rattle.rules.specs.Take.{stanceOf, stepAfter, moveAt, moveOf}
 use Rattle.rules.specs.Next.{nextSpec}
 use Rattle.rules.specs.Access.{valueOf}
 use Rattle.rules.specs.Turn.{turnSpec}
-use Rattle.rules.specs.Bench.{settled, played, playedLeaves}
-use Rattle.rules.specs.Run.{World, Happening, attaches, plays, partyIn, takes, happens, run, opened}
-use Rattle.rules.specs.Stretch.{moves, countsBy, ticks, Turns}
+use Rattle.rules.specs.Run.{World, partyIn, takes, run, opened}
+use Rattle.rules.specs.Stretch.{moves, ticks}
 use Rattle.rules.specs.Given.{none-left, turn-taken}
 use Rattle.rules.specs.Claims.{Fresh, reached, ToldClosed}
 use Rattle.rules.proofs.Answered.{given-only}
 use Rattle.rules.proofs.Rooms.{asRoom}
 use Rattle.rules.proofs.Leads.{Tells}
-use Rattle.rules.proofs.Taken.{turnWorld, turn-refused}
+use Rattle.rules.proofs.Taken.{turnWorld}
 use Rattle.rules.proofs.RealTurn.{sightAt, own-is, next-step, tells-here, after-turn, turn-is-after, real-after}
 use Rattle.rules.proofs.RealRun.{power-fits, slot-fits, real-reached, waiting-is}
 use Rattle.rules.proofs.Heard.{setsNone}
 use Rattle.rules.proofs.Listening.{mover-is, flags-same}
 use Rattle.rules.proofs.Bound.{none-after}
+use Rattle.rules.proofs.Exactly.{counted-off}
 use Rattle.rules.proofs.Asks.{run-parts}
 use Rattle.rules.proofs.Real.{roomIn, Real}
 
--- where such a pop stands after so many turns
+-- where such a pop stands so many turns before its last look
 abbrev stage : ℕ → Step
-stage zero = Look
+stage zero = LastLook false
 stage (suc zero) = Gate
-stage (suc (suc n)) = LastLook false
+stage (suc (suc n)) = Look
 
 stage-sets-none : (n : ℕ) → setsNone (stage n) ≡ true
 stage-sets-none zero = refl
@@ -66,6 +63,7 @@ module _ (P S v : ℕ) (on : Bool) (power-ok : powerOk P ≡ true) (slot-ok : sl
     left : doorOf Recorder (leAt 4 (w .region) flagsAt) ≡ Left
     blocking : partyIn w Recorder .blocking ≡ true
     at : partyIn w Recorder .step ≡ stage n
+    few : n ≤ 2
 
   module _ (w : World) (n : ℕ) (d : Stage n w) (payload lent : List ℕ) (g : takes w Recorder payload lent Fine ≡ true) where
     abbrev p : Party
@@ -93,53 +91,35 @@ module _ (P S v : ℕ) (on : Bool) (power-ok : powerOk P ≡ true) (slot-ok : sl
     unfolding moveOf
     step-at u e = ap (λ (x : Step). stepAfter (moveAt x (p .own) (p .counter) (p .blocking) (p .length) value 0) x) e
 
-    leads-on : (m : ℕ) → s ≡ stage m → m < 2 → next ≡ stage (suc m)
+    leads-on : (m : ℕ) → s ≡ stage (suc m) → m ≤ 1 → next ≡ stage m
     unfolding lookMove gateMove
     leads-on zero e h =
-        let seen : roomOf (p .own .side) (capacity (p .own .power)) (p .counter) value ≡ Blocked = told-at Look e ∙ ap asRoom (d .none) in
-        step-at Look e ∙ rw (seen, d .blocking) refl
-    leads-on (suc zero) e h =
         let seen : doorOf (p .own .side) value ≡ Left = told-at Gate e ∙ d .left in
         step-at Gate e ∙ rw seen (ap (λ (o : Own). stepAfter (leftMove (o .side)) Gate) (own-is P S v on power-ok slot-ok w (d .real) Recorder payload lent Fine g))
+    leads-on (suc zero) e h =
+        let seen : roomOf (p .own .side) (capacity (p .own .power)) (p .counter) value ≡ Blocked = told-at Look e ∙ ap asRoom (d .none) in
+        step-at Look e ∙ rw (seen, d .blocking) refl
     leads-on (suc (suc m)) e h = absurd (omega arith)
 
-    stage-after : n < 2 → Stage (suc n) after
-    stage-after h =
-        let me = mover-is P S v on power-ok slot-ok w (d .real) Recorder payload lent Fine g in
-        record {
-          real = real-after P S v on power-ok slot-ok w (d .real) Recorder payload lent Fine g;
-          none = none-after P S v on power-ok slot-ok w (d .real) Recorder payload lent Fine g (d .none);
-          left = ap (doorOf Recorder) (flags-same P S v on power-ok slot-ok w (d .real) Recorder payload lent Fine g (ap setsNone (d .at) ∙ stage-sets-none n)) ∙ d .left;
-          blocking = ap (λ (q : Party). q .blocking) me ∙ d .blocking;
-          at = ap (λ (q : Party). q .step) me ∙ leads-on n (d .at) h;
-        }
+  moving : (n : ℕ) (w : World) → Stage n w → moves (stanceOf (partyIn w Recorder .step)) ≡ true
+  moving n w d = ap (λ (x : Step). moves (stanceOf x)) (d .at) ∙ stage-moves n
 
-  told-run : (ms : List Happening) (w : World) → Turns Recorder ms → (n : ℕ) → Stage n w → ticks ms w + n ≡ 2 → Stage 2 (run ms w)
-  unfolding run happens played playedLeaves settled
-  told-run [] w m n d l = let e : n ≡ 2 = omega arith in rw (← e) d
-  told-run (attaches mover spins ∷ ms) w m n d l = absurd m
-  told-run (plays (Turn mover) i o ∷ ms) w m n d l =
-      subst (λ (τ : Side). ticks (plays (Turn τ) i o ∷ ms) w + n ≡ 2 → Stage 2 (run (plays (Turn τ) i o ∷ ms) w)) (sym (m .0)) (by (λ u k. told-run ms u (m .1) k) (takes w Recorder i o Fine) refl) l
-    where
-      by : ((u : World) (k : ℕ) → Stage k u → ticks ms u + k ≡ 2 → Stage 2 (run ms u)) → (b : Bool) → takes w Recorder i o Fine ≡ b → ticks (plays (Turn Recorder) i o ∷ ms) w + n ≡ 2 → Stage 2 (run (plays (Turn Recorder) i o ∷ ms) w)
-      by go false g l =
-          let c : countsBy moves w Recorder i o Fine ≡ 0 = ap (λ (b : Bool). pick (b && moves (stanceOf (partyIn w Recorder .step))) 1 0) g in
-          go (turnWorld w Recorder i o Fine) n (subst (Stage n) (sym (turn-refused w Recorder i o Fine g)) d) (omega arith)
-      by go true g l =
-          let move : moves (stanceOf (partyIn w Recorder .step)) ≡ true = ap (λ (x : Step). moves (stanceOf x)) (d .at) ∙ stage-moves n in
-          let c : countsBy moves w Recorder i o Fine ≡ 1 = ap (λ (b : Bool). pick (b && moves (stanceOf (partyIn w Recorder .step))) 1 0) g ∙ ap (λ (b : Bool). pick b 1 0) move in
-          go (turnWorld w Recorder i o Fine) (suc n)
-          (subst (Stage (suc n)) (sym (turn-is-after P S v on power-ok slot-ok w (d .real) Recorder i o Fine g)) (stage-after w n d i o g (omega arith))) (omega arith)
-  told-run (plays (Failing mover e) i o ∷ ms) w m n d l = absurd m
-  told-run (plays (Spurious mover) i o ∷ ms) w m n d l = absurd m
-  told-run (plays (TimeOut mover) i o ∷ ms) w m n d l = absurd m
-  told-run (plays (Push b t k) i o ∷ ms) w m n d l = absurd m
-  told-run (plays (Pop b k) i o ∷ ms) w m n d l = absurd m
-  told-run (plays (Close mover) i o ∷ ms) w m n d l = absurd m
-  told-run (plays (Shutdown mover) i o ∷ ms) w m n d l = absurd m
+  turn : (n : ℕ) (w : World) → Stage (suc n) w → (payload lent : List ℕ) → takes w Recorder payload lent Fine ≡ true → Stage n (turnWorld w Recorder payload lent Fine)
+  turn n w d payload lent g =
+      let me = mover-is P S v on power-ok slot-ok w (d .real) Recorder payload lent Fine g in
+      let still = flags-same P S v on power-ok slot-ok w (d .real) Recorder payload lent Fine g (ap setsNone (d .at) ∙ stage-sets-none (suc n)) in
+      subst (Stage n) (sym (turn-is-after P S v on power-ok slot-ok w (d .real) Recorder payload lent Fine g))
+      (record {
+        real = real-after P S v on power-ok slot-ok w (d .real) Recorder payload lent Fine g;
+        none = none-after P S v on power-ok slot-ok w (d .real) Recorder payload lent Fine g (d .none);
+        left = ap (doorOf Recorder) still ∙ d .left;
+        blocking = ap (λ (q : Party). q .blocking) me ∙ d .blocking;
+        at = ap (λ (q : Party). q .step) me ∙ leads-on w (suc n) d payload lent g n (d .at) (omega (arith, d .few));
+        few = omega (arith, d .few);
+      })
 
-  told-last : (w : World) → Stage 2 w → (payload lent : List ℕ) → takes w Recorder payload lent Fine ≡ true → turnSpec Recorder (w .region) (partyIn w Recorder) payload lent Fine .answer ≡ Closed
-  told-last w d payload lent g = given-only (turn-taken g (none-left (d .at) (told-at w 2 d payload lent g (LastLook false) (d .at) ∙ ap asRoom (d .none))))
+  told-last : (w : World) → Stage 0 w → (payload lent : List ℕ) → takes w Recorder payload lent Fine ≡ true → turnSpec Recorder (w .region) (partyIn w Recorder) payload lent Fine .answer ≡ Closed
+  told-last w d payload lent g = given-only (turn-taken g (none-left (d .at) (told-at w 0 d payload lent g (LastLook false) (d .at) ∙ ap asRoom (d .none))))
 
 module _ (r : List ℕ) (P S : ℕ) (on : Bool) (v : ℕ) (fresh : Fresh r P S on v) where
   pub told-closed : ToldClosed r P S on v
@@ -148,7 +128,8 @@ module _ (r : List ℕ) (P S : ℕ) (on : Bool) (v : ℕ) (fresh : Fresh r P S o
       let w = reached r P S on v hs in
       let power-ok = power-fits r P S on v fresh in
       let slot-ok = slot-fits r P S on v fresh in
-      let start : Stage P S v on power-ok slot-ok 0 w = record { real = real-reached r P S on v fresh hs t; none = sym (waiting-is r P S on v fresh hs t) ∙ none; left = rw (down, closed) refl; blocking = blocking; at = look } in
-      let last = told-run P S v on power-ok slot-ok ms w turns 0 start (omega arith) in
+      let start : Stage P S v on power-ok slot-ok 2 w = record { real = real-reached r P S on v fresh hs t; none = sym (waiting-is r P S on v fresh hs t) ∙ none; left = rw (down, closed) refl; blocking = blocking; at = look; few = omega arith } in
+      let e : 2 ≡ ticks ms w + 0 = omega (arith, two) in
+      let last = counted-off Recorder (Stage P S v on power-ok slot-ok) (λ n. moving P S v on power-ok slot-ok (suc n)) (turn P S v on power-ok slot-ok) (moving P S v on power-ok slot-ok 0) ms w turns 0 (subst (λ (k : ℕ). Stage P S v on power-ok slot-ok k w) e start) in
       subst (λ (u : World). takes u Recorder payload lent Fine ≡ true → turnSpec Recorder (u .region) (partyIn u Recorder) payload lent Fine .answer ≡ Closed) (sym (run-parts hs ms (opened (created r P S on v))))
       (told-last P S v on power-ok slot-ok (run ms w) last payload lent)
