@@ -30,7 +30,7 @@ use Rattle.layout.specs.Create.{createChecks, createAnswer}
 use Rattle.layout.specs.Attach.{attachChecks, attachAnswer, attachReply}
 use Rattle.layout.specs.Slots.{headOf}
 use Rattle.rules.specs.Sides.{ringBell, sleepBell, rings, waitOp, wakeOp}
-use Rattle.rules.specs.Looks.{roomOf, wasBlocked, doorOf, fitOf, napOf}
+use Rattle.rules.specs.Looks.{roomHere, wasBlocked, doorOf, fitOf, napOf}
 use Rattle.rules.specs.Steps.{roomMove, blockedMove, lookMove, fitMove, copyWith, copyMove, publishMove, checkMove, wakeMove, doorMove, gateMove, toSpin, spinMove, againMove, napMove, waitMove, lastMove, closeMove, shutMove}
 use Rattle.rules.specs.Take.{stanceOf, moveAt, answerOf, moveOf, takeSpec}
 use Rattle.rules.specs.Next.{nextSpec}
@@ -82,7 +82,7 @@ ends-only (goes-on m) = rw m
 -- and its row's it is, at every step
 module _ (p : Party) (v e : ℕ) where
   abbrev room-here : Room
-  room-here = roomOf (p .own .side) (capacity (p .own .power)) (p .counter) v
+  room-here = roomHere (p .own) (p .counter) v
 
   abbrev fit-here : Fit
   fit-here = fitOf (headOf v) (payloadCapacity (p .own .slot)) (p .length)

@@ -24,7 +24,7 @@ use Rattle.rules.specs.Access.{valueOf}
 use Rattle.rules.specs.Run.{World, partyIn, takes, run, opened}
 use Rattle.rules.specs.Stretch.{moves, inWait}
 use Rattle.rules.specs.Claims.{Fresh, reached, FallsAsleep}
-use Rattle.rules.proofs.Views.{Kind, rests, dreams as asleep, acts, kind}
+use Rattle.rules.proofs.Views.{moves-else}
 use Rattle.rules.proofs.After.{bell-after}
 use Rattle.rules.proofs.Kept.{header-in}
 use Rattle.rules.proofs.Leads.{stopAt, stop-barred, open-door}
@@ -100,12 +100,10 @@ module _ (P S v : ℕ) (on : Bool) (power-ok : powerOk P ≡ true) (slot-ok : sl
 
   -- one with turns left is neither at rest nor asleep
   moving : (side : Side) (n : ℕ) (w : World) → Drowsy side (suc n) w → moves (stanceOf (partyIn w side .step)) ≡ true
-  moving side n w d = by (partyIn w side .step) refl (kind (partyIn w side .step))
-    where
-      by : (s : Step) → partyIn w side .step ≡ s → Kind s → moves (stanceOf (partyIn w side .step)) ≡ true
-      by s e rests = absurd (let u : true ≡ false = sym (d .waits) ∙ ap inWait e in let z : _≡_ {A = ℕ} 0 1 = cc in omega arith)
-      by s e asleep = absurd (let u : 0 ≡ suc n = sym (ap (toSleep (bell side w) (partyIn w side .own .spins)) e) ∙ d .left in omega arith)
-      by s e (acts move) = ap (λ (x : Step). moves (stanceOf x)) e ∙ move
+  moving side n w d =
+      moves-else (partyIn w side .step)
+      (λ e. let u : true ≡ false = sym (d .waits) ∙ ap inWait e in let z : _≡_ {A = ℕ} 0 1 = cc in omega arith)
+      (λ e. let u : 0 ≡ suc n = sym (ap (toSleep (bell side w) (partyIn w side .own .spins)) e) ∙ d .left in omega arith)
 
   turn : (side : Side) (n : ℕ) (w : World) → Drowsy side (suc n) w → (payload lent : List ℕ) → takes w side payload lent Fine ≡ true → Drowsy side n (turnWorld w side payload lent Fine)
   turn side n w d payload lent g = subst (Drowsy side n) (sym (turn-is-after P S v on power-ok slot-ok w (d .real) side payload lent Fine g)) (drowsy-after side w (suc n) d payload lent g)

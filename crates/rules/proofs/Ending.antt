@@ -70,12 +70,12 @@ stop-cause : (k : ℕ) (z : Bool) → z ≡ true → Cause k z
 stop-cause zero z e = rw e tt
 stop-cause (suc k) z e = tt
 
+-- at most one, and as many as there may be by its door
 pub one-more : (side : Side) → lastLooks side ≤ 1
 one-more Sender = omega arith
 one-more Recorder = omega arith
 
--- as many last looks as there may be
-looks-most : (side : Side) (d : Door) → lastAt side d ≤ lastLooks side
+pub looks-most : (side : Side) (d : Door) → lastAt side d ≤ lastLooks side
 looks-most Sender d = omega arith
 looks-most Recorder Shut = omega arith
 looks-most Recorder Left = omega arith

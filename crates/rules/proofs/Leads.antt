@@ -24,7 +24,7 @@ use Rattle.layout.specs.Limits.{capacity, payloadCapacity}
 use Rattle.layout.specs.Flags.{worth, bitOn, closeMark}
 use Rattle.layout.specs.Slots.{headOf}
 use Rattle.rules.specs.Sides.{other, rings, sleepBell, waitOp}
-use Rattle.rules.specs.Looks.{roomOf, wasBlocked, doorOf, fitOf, napOf}
+use Rattle.rules.specs.Looks.{roomHere, wasBlocked, doorOf, fitOf, napOf}
 use Rattle.rules.specs.Steps.{roomMove, blockedMove, lookMove, fitMove, copyWith, copyMove, publishMove, checkMove, wakeMove, doorMove, gateMove, toSpin, spinMove, againMove, napMove, waitMove, lastMove, closeMove, shutMove}
 use Rattle.rules.specs.Phase.{asking, phase}
 use Rattle.rules.specs.Take.{moveAt, stepAfter}
@@ -204,20 +204,20 @@ nap-sleeps f s e = by (eqb f 0) s (eqb f 4 || eqb f 11) (eqb f 110) e
 -- what a turn's value has to say, by the step
 abbrev pub Tells : (own : Own) → Sight → (counter value : ℕ) → Step → Type 0
 Tells own g c v Rest = Unit
-Tells own g c v Look = roomOf (own .side) (capacity (own .power)) c v ≡ asRoom (g .room)
+Tells own g c v Look = roomHere own c v ≡ asRoom (g .room)
 Tells own g c v Copy = Unit
 Tells own g c v (Publish l t) = Unit
 Tells own g c v (Check l t) = wasBlocked (own .side) (capacity (own .power)) c v ≡ eqb (g .theirs) 1
 Tells own g c v (Raise l t) = Unit
 Tells own g c v (Wake l t) = Unit
 Tells own g c v Gate = doorOf (own .side) v ≡ g .door
-Tells own g c v (Spin n) = roomOf (own .side) (capacity (own .power)) c v ≡ asRoom (g .room)
+Tells own g c v (Spin n) = roomHere own c v ≡ asRoom (g .room)
 Tells own g c v Epoch = v ≡ g .bell
-Tells own g c v (Again e) = roomOf (own .side) (capacity (own .power)) c v ≡ asRoom (g .room)
+Tells own g c v (Again e) = roomHere own c v ≡ asRoom (g .room)
 Tells own g c v (GateAgain e) = doorOf (own .side) v ≡ g .door
 Tells own g c v (Wait e) = v ≡ g .bell
 Tells own g c v Asleep = Unit
-Tells own g c v (LastLook q) = roomOf (own .side) (capacity (own .power)) c v ≡ asRoom (g .room)
+Tells own g c v (LastLook q) = roomHere own c v ≡ asRoom (g .room)
 Tells own g c v CloseSet = Unit
 Tells own g c v CloseRaise = Unit
 Tells own g c v CloseWake = Unit

@@ -17,7 +17,7 @@ use Rattle.types.specs.declared.Event.the-variants.{Turn, Failing, Spurious, Ti
 use Rattle.types.specs.declared.Answer.the-variants.{Closed, Timeout}
 use Rattle.layout.specs.Limits.{powerOk, slotOk, capacity}
 use Rattle.layout.specs.Create.{created}
-use Rattle.rules.specs.Looks.{roomOf}
+use Rattle.rules.specs.Looks.{roomHere}
 use Rattle.rules.specs.Next.{nextSpec}
 use Rattle.rules.specs.Access.{valueOf}
 use Rattle.rules.specs.Turn.{turnSpec}
@@ -45,7 +45,7 @@ module _ (side : Side) (w : World) (payload lent : List ℕ) (fault : Fault) whe
   pub record Blocked-at (timed : Bool) : Type 0 where
     pub taken : takes w side payload lent fault ≡ true
     pub last : p .step ≡ LastLook timed
-    pub blocked : roomOf (p .own .side) (capacity (p .own .power)) (p .counter) (valueOf (w .region) (p .own) (nextSpec p)) ≡ Blocked
+    pub blocked : roomHere (p .own) (p .counter) (valueOf (w .region) (p .own) (nextSpec p)) ≡ Blocked
 
   timed-turn : Given (turn side (w .region) p payload lent fault) Timeout → Blocked-at true
   timed-turn (turn-taken g (timed-out s r)) = record { taken = g; last = s; blocked = r }
@@ -98,7 +98,7 @@ module _ (r : List ℕ) (P S : ℕ) (on : Bool) (v : ℕ) (fresh : Fresh r P S o
       let w = reached r P S on v hs in
       let p = partyIn w side in
       let k = roomIn P S v on side (w .trace) in
-      let seen : roomOf (p .own .side) (capacity (p .own .power)) (p .counter) (valueOf (w .region) (p .own) (nextSpec p)) ≡ asRoom k =
+      let seen : roomHere (p .own) (p .counter) (valueOf (w .region) (p .own) (nextSpec p)) ≡ asRoom k =
       subst (λ (s : Step). Tells (p .own) (sightAt P S v on side (p .own) (w .region) (w .trace) (p .blocking)) (p .counter) (valueOf (w .region) (p .own) (nextSpec p)) s) (h .last)
       (tells-here P S v on power-ok slot-ok w (real-reached r P S on v fresh hs t) side payload lent fault (h .taken)) in
       room-is r P S on v fresh side hs t ∙ none-seen k (sym seen ∙ h .blocked)

@@ -1,5 +1,5 @@
 -- A party that has closed stays out of push and pop, and only the other's close leads to the last look for it.
-use mathlib.Core.Path.{_≡_, refl}
+use mathlib.Core.Path.{_≡_, refl, sym, ap, _∙_}
 use mathlib.Core.Bool.{Bool, true, false}
 use mathlib.Core.Logic.{_⊎_, inl, inr}
 use Prim.Native.Nat.{ℕ, _<_}
@@ -12,7 +12,7 @@ use Rattle.types.specs.declared.Access.{Access}
 use Rattle.rules.specs.Take.{stanceOf, closedAfter}
 use Rattle.rules.specs.Phase.{phase}
 use Rattle.rules.proofs.Does.{Does, nothing, looks, flags, reads as epoch, writes, takes, stores as store, raises as ring, closes as close, shuts as shut, waits as wait, wakes as wake}
-use Rattle.rules.proofs.Leads.{Sight, Onward, straight, around, Leads, idles, finds, blocks, gives-up, copies, spills, tells, stores, owes, passes, raises, wakes, enters, stops, finds-spin, spins, reads, finds-again, stays, enters-again, stops-again, returns, ends, dreams, glances, glances-again, times-out, finds-last, finds-none, closes, closes-alone, close-raises, close-wakes, shuts, shut-raises, shut-wakes, shut-raises-again, shut-wakes-again, sleeps as falls-asleep}
+use Rattle.rules.proofs.Leads.{Sight, Onward, straight, around, asks, Leads, idles, finds, blocks, gives-up, copies, spills, tells, stores, owes, passes, raises, wakes, enters, stops, finds-spin, spins, reads, finds-again, stays, enters-again, stops-again, returns, ends, dreams, glances, glances-again, times-out, finds-last, finds-none, closes, closes-alone, close-raises, close-wakes, shuts, shut-raises, shut-wakes, shut-raises-again, shut-wakes-again, sleeps as falls-asleep}
 use Rattle.rules.proofs.Real.{parts}
 
 -- a turn leads out of push and pop, not into them
@@ -57,10 +57,6 @@ parts-on g s next shut-wakes e = refl
 parts-on g s next shut-raises-again e = refl
 parts-on g s next shut-wakes-again e = refl
 
-not-last : (n : ℕ) (t : Step) → Onward n t → t ≡ LastLook false → ⊥
-not-last n t straight e = let u : _≡_ {A = ℕ} 0 1 = cc in omega arith
-not-last n t (around m) e = let u : _≡_ {A = ℕ} 0 1 = cc in omega arith
-
 pub glances-left : (g : Sight) (s next : Step) → Leads g s next → next ≡ LastLook false → g .door ≡ Left
 glances-left g s next idles e = absurd (let u : _≡_ {A = ℕ} 0 1 = cc in omega arith)
 glances-left g s next (finds h) e = absurd (let u : _≡_ {A = ℕ} 0 1 = cc in omega arith)
@@ -74,9 +70,9 @@ glances-left g s next (owes h) e = absurd (let u : _≡_ {A = ℕ} 0 1 = cc in o
 glances-left g s next (passes h) e = absurd (let u : _≡_ {A = ℕ} 0 1 = cc in omega arith)
 glances-left g s next raises e = absurd (let u : _≡_ {A = ℕ} 0 1 = cc in omega arith)
 glances-left g s next wakes e = absurd (let u : _≡_ {A = ℕ} 0 1 = cc in omega arith)
-glances-left g s next (enters h o) e = absurd (not-last _ next o e)
+glances-left g s next (enters h o) e = absurd (let q = sym (asks _ _ o) ∙ ap phase e in let u : _≡_ {A = ℕ} 0 1 = cc in omega arith)
 glances-left g s next (finds-spin h) e = absurd (let u : _≡_ {A = ℕ} 0 1 = cc in omega arith)
-glances-left g s next (spins h o) e = absurd (not-last _ next o e)
+glances-left g s next (spins h o) e = absurd (let q = sym (asks _ _ o) ∙ ap phase e in let u : _≡_ {A = ℕ} 0 1 = cc in omega arith)
 glances-left g s next (stops h u) e = absurd (let u : _≡_ {A = ℕ} 0 1 = cc in omega arith)
 glances-left g s next reads e = absurd (let u : _≡_ {A = ℕ} 0 1 = cc in omega arith)
 glances-left g s next (finds-again h) e = absurd (let u : _≡_ {A = ℕ} 0 1 = cc in omega arith)

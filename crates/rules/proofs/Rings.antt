@@ -91,11 +91,12 @@ owing-small Sender (ShutRaiseNf c f) k = omega (arith, spare-small k)
 owing-small Recorder (ShutRaiseNf c f) k = omega (arith, spare-small k)
 owing-small side (ShutWakeNf c f) k = omega (arith, spare-small k)
 
--- a turn of the side that rings pays for each raise
+-- at a spin it owes what it owes at rest
 owing-on : (side : Side) (n : ℕ) (t : Step) (k : ℕ) → Onward n t → owing side t k ≡ spare k
 owing-on side n t k straight = refl
 owing-on side n t k (around m) = refl
 
+-- a turn of the side that rings pays for each raise
 pub pays : (side : Side) (g : Sight) (s next : Step) → Leads g s next → (n : ℕ) → rungBy side s n + owing side next (roomBy s (g .theirs)) ≤ n + owing side s (g .theirs)
 pays side g s next idles n = omega arith
 pays side g s next (finds h) n = omega arith

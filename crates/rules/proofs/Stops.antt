@@ -2,7 +2,7 @@
 use mathlib.Core.Path.{_≡_, refl, sym, ap, _∙_, subst}
 use mathlib.Core.Bool.{Bool, true, false, _||_}
 use mathlib.Core.List.{List}
-use Prim.Native.Nat.{ℕ, suc, _+_, _≤_}
+use Prim.Native.Nat.{ℕ, suc, _+_}
 use native.Mathlib.Omega.{arith}
 use Rattle.words.specs.Le.{leAt}
 use Rattle.types.specs.Pick.{pick}
@@ -24,7 +24,7 @@ use Rattle.rules.specs.Take.{stanceOf}
 use Rattle.rules.specs.Run.{World, partyIn, takes, run, opened}
 use Rattle.rules.specs.Stretch.{moves}
 use Rattle.rules.specs.Claims.{lastLooks, Fresh, reached, StopsAfter}
-use Rattle.rules.proofs.Views.{Kind, rests, dreams as asleep, acts, kind}
+use Rattle.rules.proofs.Views.{moves-else}
 use Rattle.rules.proofs.Leads.{barred, stop-barred, lastAt}
 use Rattle.rules.proofs.Taken.{turnWorld}
 use Rattle.rules.proofs.RealTurn.{next-step, leads-here, after-turn, turn-is-after, real-after}
@@ -36,16 +36,11 @@ use Rattle.rules.proofs.Causes.{room-is}
 use Rattle.rules.proofs.Bound.{none-after}
 use Rattle.rules.proofs.Asks.{run-parts}
 use Rattle.rules.proofs.Nearer.{toRest, near, stopping, nears}
+use Rattle.rules.proofs.Ending.{one-more, looks-most}
 use Rattle.rules.proofs.Exactly.{exactly}
 use Rattle.rules.proofs.Real.{roomIn, Real}
 
 -- a shutdown spares the last look
-last-one : (side : Side) (d : Door) → lastAt side d ≤ 1
-last-one Sender d = omega arith
-last-one Recorder Shut = omega arith
-last-one Recorder Left = omega arith
-last-one Recorder Open = omega arith
-
 last-is : (side : Side) (flags : ℕ) → (bitOn (worth ShutMark) flags || bitOn (worth (closeMark (other side))) flags) ≡ true
     → lastAt side (doorOf side flags) ≡ pick (bitOn (worth ShutMark) flags) 0 (lastLooks side)
 unfolding doorOf
@@ -69,15 +64,13 @@ module _ (P S v : ℕ) (on : Bool) (power-ok : powerOk P ≡ true) (slot-ok : sl
 
   module _ (side : Side) (door : Door) (up : barred door ≡ true) where
     rested : (w : World) → Stopping side door 0 w → partyIn w side .step ≡ Rest
-    rested w d = near (lastAt side door) (last-one side door) (partyIn w side .step) 0 .rested (omega (arith, d .left))
+    rested w d = near (lastAt side door) (omega (arith, looks-most side door, one-more side)) (partyIn w side .step) 0 .rested (omega (arith, d .left))
 
     moving : (n : ℕ) (w : World) → Stopping side door (suc n) w → moves (stanceOf (partyIn w side .step)) ≡ true
-    moving n w d = by (partyIn w side .step) refl (kind (partyIn w side .step))
-      where
-        by : (s : Step) → partyIn w side .step ≡ s → Kind s → moves (stanceOf (partyIn w side .step)) ≡ true
-        by s e rests = absurd (let u : 0 ≡ suc n = sym (ap (λ (x : Step). toRest (lastAt side door) x 0) e) ∙ d .left in omega arith)
-        by s e asleep = absurd (let u : true ≡ false = sym (d .at) ∙ ap stopping e in let z : _≡_ {A = ℕ} 0 1 = cc in omega arith)
-        by s e (acts move) = ap (λ (x : Step). moves (stanceOf x)) e ∙ move
+    moving n w d =
+        moves-else (partyIn w side .step)
+        (λ e. let u : 0 ≡ suc n = sym (ap (λ (x : Step). toRest (lastAt side door) x 0) e) ∙ d .left in omega arith)
+        (λ e. let u : true ≡ false = sym (d .at) ∙ ap stopping e in let z : _≡_ {A = ℕ} 0 1 = cc in omega arith)
 
     module _ (n : ℕ) (w : World) (d : Stopping side door (suc n) w) (payload lent : List ℕ) (g : takes w side payload lent Fine ≡ true) where
       abbrev next : Step

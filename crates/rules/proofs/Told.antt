@@ -14,10 +14,10 @@ use Rattle.types.specs.declared.Door.the-variants.{Left}
 use Rattle.types.specs.declared.Step.{Step}
 use Rattle.types.specs.declared.Step.the-variants.{Look, Gate, LastLook}
 use Rattle.types.specs.declared.Answer.the-variants.{Closed}
-use Rattle.layout.specs.Limits.{powerOk, slotOk, capacity}
+use Rattle.layout.specs.Limits.{powerOk, slotOk}
 use Rattle.layout.specs.Header.{flagsAt}
 use Rattle.layout.specs.Create.{created}
-use Rattle.rules.specs.Looks.{roomOf, doorOf}
+use Rattle.rules.specs.Looks.{roomHere, doorOf}
 use Rattle.rules.specs.Steps.{lookMove, leftMove, gateMove}
 use Rattle.rules.specs.Take.{stanceOf, stepAfter, moveAt, moveOf}
 use Rattle.rules.specs.Next.{nextSpec}
@@ -97,7 +97,7 @@ module _ (P S v : ℕ) (on : Bool) (power-ok : powerOk P ≡ true) (slot-ok : sl
         let seen : doorOf (p .own .side) value ≡ Left = told-at Gate e ∙ d .left in
         step-at Gate e ∙ rw seen (ap (λ (o : Own). stepAfter (leftMove (o .side)) Gate) (own-is P S v on power-ok slot-ok w (d .real) Recorder payload lent Fine g))
     leads-on (suc zero) e h =
-        let seen : roomOf (p .own .side) (capacity (p .own .power)) (p .counter) value ≡ Blocked = told-at Look e ∙ ap asRoom (d .none) in
+        let seen : roomHere (p .own) (p .counter) value ≡ Blocked = told-at Look e ∙ ap asRoom (d .none) in
         step-at Look e ∙ rw (seen, d .blocking) refl
     leads-on (suc (suc m)) e h = absurd (omega arith)
 

@@ -1,5 +1,5 @@
 -- The turns that are left until sleep.
-use mathlib.Core.Path.{_≡_, refl, sym}
+use mathlib.Core.Path.{_≡_, refl, sym, ap}
 use mathlib.Core.Bool.{Bool, true, false}
 use Prim.Native.Nat.{ℕ, suc, _+_, _-_, _%_, _^_, _<_, _≤_}
 use native.Mathlib.Nat.{mod-eq-of-lt}
@@ -19,9 +19,9 @@ use Rattle.rules.specs.Looks.{napOf}
 use Rattle.rules.specs.Steps.{napMove, waitMove}
 use Rattle.rules.specs.Take.{stepAfter}
 use Rattle.rules.specs.Next.{nextAt}
-use Rattle.rules.specs.Stretch.{inWait}
+use Rattle.rules.specs.Stretch.{inWaitAt, inWait}
 use Rattle.rules.proofs.After.{bellBy}
-use Rattle.rules.proofs.Leads.{Sight, Onward, straight, around, Leads, idles, finds, blocks, gives-up, copies, spills, tells, stores, owes, passes, raises, wakes, enters, stops, finds-spin, spins, reads, finds-again, stays, enters-again, stops-again, returns, ends, dreams, glances, glances-again, times-out, finds-last, finds-none, closes, closes-alone, close-raises, close-wakes, shuts, shut-raises, shut-wakes, shut-raises-again, shut-wakes-again, sleeps as falls-asleep}
+use Rattle.rules.proofs.Leads.{Sight, Onward, straight, around, asks, Leads, idles, finds, blocks, gives-up, copies, spills, tells, stores, owes, passes, raises, wakes, enters, stops, finds-spin, spins, reads, finds-again, stays, enters-again, stops-again, returns, ends, dreams, glances, glances-again, times-out, finds-last, finds-none, closes, closes-alone, close-raises, close-wakes, shuts, shut-raises, shut-wakes, shut-raises-again, shut-wakes-again, sleeps as falls-asleep}
 use Rattle.rules.proofs.Does.{less, less-one}
 use Rattle.rules.proofs.Heard.{setsNone}
 use Rattle.rules.proofs.Effects.{sets-none}
@@ -142,10 +142,6 @@ not-naps s a l true q = a q
 not-naps s a l false q = l q
 
 -- a spin, or the look at the bell
-waits-on : (n : ℕ) (t : Step) → Onward n t → inWait t ≡ true
-waits-on n t straight = refl
-waits-on n t (around m) = refl
-
 spun : (b a n : ℕ) (t : Step) → Onward n t → toSleep b a t ≡ less (5 + n)
 spun b a n t straight = refl
 spun b a n t (around m) = less-one (5 + m) (5 + suc m) (omega arith)
@@ -164,9 +160,9 @@ drowse g none l o m s next (owes h) w f = absurd (let u : _≡_ {A = ℕ} 0 1 = 
 drowse g none l o m s next (passes h) w f = absurd (let u : _≡_ {A = ℕ} 0 1 = cc in omega arith)
 drowse g none l o m s next raises w f = absurd (let u : _≡_ {A = ℕ} 0 1 = cc in omega arith)
 drowse g none l o m s next wakes w f = absurd (let u : _≡_ {A = ℕ} 0 1 = cc in omega arith)
-drowse g none l o m s next (enters h u) w f = (waits-on _ next u, spun (g .bell) (g .spins) _ next u)
+drowse g none l o m s next (enters h u) w f = (ap inWaitAt (asks _ _ u), spun (g .bell) (g .spins) _ next u)
 drowse g none l o m s next (finds-spin h) w f = absurd (omega arith)
-drowse g none l o m s next (spins h u) w f = (waits-on _ next u, spun (g .bell) (g .spins) _ next u)
+drowse g none l o m s next (spins h u) w f = (ap inWaitAt (asks _ _ u), spun (g .bell) (g .spins) _ next u)
 drowse g none l o m s next (stops h u) w f = absurd (let u : _≡_ {A = ℕ} 0 1 = cc in omega arith)
 drowse g none l o m s next reads w f = (refl, read-fresh (g .bell) (9 + g .spins) l)
 drowse g none l o m s next (finds-again h) w f = absurd (omega arith)

@@ -94,6 +94,15 @@ kind s = by s (view s)
     by s asleep = dreams
     by s (elsewhere a w) = acts ((acting-moves (stanceOf s) a) .0)
 
+-- one that is neither at rest nor asleep moves
+pub moves-else : (s : Step) → (s ≡ Rest → ⊥) → (s ≡ Asleep → ⊥) → moves (stanceOf s) ≡ true
+moves-else s r d = by s (kind s) r d
+  where
+    by : (s : Step) → Kind s → (s ≡ Rest → ⊥) → (s ≡ Asleep → ⊥) → moves (stanceOf s) ≡ true
+    by s rests r d = absurd (r refl)
+    by s dreams r d = absurd (d refl)
+    by s (acts move) r d = move
+
 pub resting-step : (s : Step) → isResting (stanceOf s) ≡ true → s ≡ Rest
 resting-step s e = by s (view s) e
   where

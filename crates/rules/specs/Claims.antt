@@ -64,12 +64,12 @@ abbrev pub lastLooks : Side → ℕ
 lastLooks Sender = 0
 lastLooks Recorder = 1
 
--- T4's number: 7, or where n spins may follow these, 4 and the last look, if that is more
+-- T4's number: 7; or, at a spin that n may follow, these n and 4 turns and the last look, if that is more
 abbrev pub stopTurns : Side → (n : ℕ) → ℕ
 stopTurns side n = pick (leb (n + 4 + lastLooks side) 7) 7 (n + 4 + lastLooks side)
 
--- T8: asking is taken. A party at rest, with a sound record (attached, of that side, its sizes and length within the limits),
--- is begun: a push that is not closed, not 19 and not 18; a pop and a close that are not closed; a shutdown always
+-- T8: asking is taken. A party at rest, with a sound record (attached, of that side, its sizes, spin count and length within the
+-- limits), is begun: a push that is not closed, not 19 and not 18; a pop and a close that are not closed; a shutdown always
 abbrev pub PushBegins : Party → Type 0
 PushBegins p = sound Sender p ≡ true → p .step ≡ Rest → p .closed ≡ false → (blocking : Bool) (tag length : ℕ)
     → (blocking && not (p .own .notfull)) ≡ false → length ≤ payloadCapacity (p .own .slot)
@@ -194,7 +194,7 @@ module _ (region : List ℕ) (power slot : ℕ) (notfull : Bool) (start : ℕ) w
       → (first : List Happening) × ((rest : List Happening) × ((ms ≡ first ++ rest)
       × ((ticks first (reached hs) ≡ n + 4 + pick (down (reached hs)) 0 (lastLooks side)) × (partyIn (reached (hs ++ first)) side .step ≡ Rest))))
 
-  -- at a spin fewer follow than the record's count: T4's number is 7, or the count and 3, and 1 for a recorder
+  -- at a spin fewer follow than the record's count. So for a count c T4's number is c + 3, for a recorder c + 4, or 7
   abbrev pub SpinsWithin : Side → Type 0
   SpinsWithin side = (hs : List Happening) (n : ℕ) → AllTyped hs → partyIn (reached hs) side .step ≡ Spin n → n < partyIn (reached hs) side .own .spins
 

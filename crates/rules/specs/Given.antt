@@ -26,7 +26,7 @@ use Rattle.layout.specs.Create.{createChecks, createAnswer}
 use Rattle.layout.specs.Attach.{attachChecks, attachReply}
 use Rattle.layout.specs.Slots.{headOf}
 use Rattle.rules.specs.Sides.{ringBell, sleepBell, rings, waitOp, wakeOp}
-use Rattle.rules.specs.Looks.{roomOf, wasBlocked, doorOf, fitOf, napOf}
+use Rattle.rules.specs.Looks.{roomOf, roomHere, wasBlocked, doorOf, fitOf, napOf}
 use Rattle.rules.specs.Take.{stanceOf, moveOf}
 use Rattle.rules.specs.Next.{nextSpec}
 use Rattle.rules.specs.Access.{valueOf}
@@ -59,11 +59,11 @@ pub data EndsWith (p : Party) (v e : ℕ) : Answer → Type 0 where
   -- 11, 12
   left : p .step ≡ Gate → p .own .side ≡ Sender → doorOf Sender v ≡ Left → EndsWith p v e Closed
   left-again : {epoch : ℕ} → p .step ≡ GateAgain epoch → p .own .side ≡ Sender → doorOf Sender v ≡ Left → EndsWith p v e Closed
-  none-left : p .step ≡ LastLook false → roomOf (p .own .side) (capacity (p .own .power)) (p .counter) v ≡ Blocked → EndsWith p v e Closed
+  none-left : p .step ≡ LastLook false → roomHere (p .own) (p .counter) v ≡ Blocked → EndsWith p v e Closed
   down : p .step ≡ Gate → doorOf (p .own .side) v ≡ Shut → EndsWith p v e Shutdown
   down-again : {epoch : ℕ} → p .step ≡ GateAgain epoch → doorOf (p .own .side) v ≡ Shut → EndsWith p v e Shutdown
   -- 13
-  timed-out : p .step ≡ LastLook true → roomOf (p .own .side) (capacity (p .own .power)) (p .counter) v ≡ Blocked → EndsWith p v e Timeout
+  timed-out : p .step ≡ LastLook true → roomHere (p .own) (p .counter) v ≡ Blocked → EndsWith p v e Timeout
   -- 17: its operation and its error
   wake-failed : {l t : ℕ} → p .step ≡ Wake l t → eqb e 0 ≡ false → EndsWith p v e (Syscall (wakeOp (ringBell (p .own .side))) e)
   close-failed : p .step ≡ CloseWake → eqb e 0 ≡ false → EndsWith p v e (Syscall (wakeOp (ringBell (p .own .side))) e)

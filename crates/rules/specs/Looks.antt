@@ -7,6 +7,7 @@ use Rattle.types.specs.Pick.{pick}
 use Rattle.types.specs.declared.Side.{Side}
 use Rattle.types.specs.declared.Side.the-variants.{Sender, Recorder}
 use Rattle.types.specs.declared.Mark.the-variants.{Shutdown}
+use Rattle.types.specs.declared.Own.{Own}
 use Rattle.types.specs.declared.Room.{Room}
 use Rattle.types.specs.declared.Room.the-variants.{Corrupt, Blocked, Free}
 use Rattle.types.specs.declared.Door.{Door}
@@ -16,6 +17,7 @@ use Rattle.types.specs.declared.Fit.the-variants.{Bad, Small, Fits}
 use Rattle.types.specs.declared.Nap.{Nap}
 use Rattle.types.specs.declared.Nap.the-variants.{Sleeps, Returns, TimedOut, Fails}
 use Rattle.types.specs.declared.SlotHead.{SlotHead}
+use Rattle.layout.specs.Limits.{capacity}
 use Rattle.layout.specs.Flags.{worth, bitOn, closeMark}
 use Rattle.rules.specs.Sides.{other, used, limit}
 
@@ -25,6 +27,10 @@ roomWith used capacity limit = pick (ltb capacity used) Corrupt (pick (eqb used 
 
 unfoldable pub roomOf : Side → (capacity own their : ℕ) → Room
 roomOf side capacity own their = roomWith (used side own their) capacity (limit side capacity)
+
+-- by a party's own copy of the sizes
+abbrev pub roomHere : Own → (counter their : ℕ) → Room
+roomHere own counter their = roomOf (own .side) (capacity (own .power)) counter their
 
 -- P4: tail equals old h. C4: head − old t equals capacity. The own counter has moved on by then
 unfoldable pub wasBlocked : Side → (capacity own their : ℕ) → Bool

@@ -3,7 +3,7 @@ use Prim.Native.Nat.{ℕ}
 use Rattle.types.specs.declared.Step.{Step}
 use Rattle.types.specs.declared.Step.the-variants.{Rest, Look, Copy, Publish, Check, Raise, Wake, Gate, Spin, Epoch, Again, GateAgain, Wait, Asleep, LastLook, CloseSet, CloseRaise, CloseWake, ShutSet, ShutRaiseNe, ShutWakeNe, ShutRaiseNf, ShutWakeNf}
 
--- telling follows a store, asking comes before an epoch, spins with it, armed to waits hold one, glancing is the last look before 11 or 13
+-- telling follows a store, asking comes before an epoch, at a spin too, armed to waits hold one, glancing is the last look before 11 or 13
 pub data Phase : Type 0 where
   resting looking copying : Phase
   publishing telling : (length tag : ℕ) → Phase

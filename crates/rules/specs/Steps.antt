@@ -24,7 +24,7 @@ use Rattle.types.specs.declared.Move.the-variants.{To, End}
 use Rattle.layout.specs.Limits.{capacity, payloadCapacity}
 use Rattle.layout.specs.Slots.{headOf}
 use Rattle.rules.specs.Sides.{blockedAnswer, ringBell, sleepBell, rings, waitOp, wakeOp}
-use Rattle.rules.specs.Looks.{roomOf, wasBlocked, doorOf, fitOf, napOf}
+use Rattle.rules.specs.Looks.{roomHere, wasBlocked, doorOf, fitOf, napOf}
 
 -- a look at the other side's counter: corruption begins a shutdown, a blocked party does what `blocked` says, else it copies
 abbrev pub roomMove : Room → (blocked : Move) → Move
@@ -37,8 +37,7 @@ abbrev pub blockedMove : (blocking : Bool) → Side → Move
 blockedMove blocking side = pick blocking (To Gate) (End (blockedAnswer side))
 
 unfoldable pub lookMove : Own → (counter : ℕ) → (blocking : Bool) → (their : ℕ) → Move
-lookMove own counter blocking their =
-    roomMove (roomOf (own .side) (capacity (own .power)) counter their) (blockedMove blocking (own .side))
+lookMove own counter blocking their = roomMove (roomHere own counter their) (blockedMove blocking (own .side))
 
 -- P2; C2: 8, then 15
 abbrev pub fitMove : Fit → (length tag : ℕ) → Move
@@ -91,13 +90,11 @@ toSpin spins = pick (eqb spins 0) Epoch (Spin (spins - 1))
 
 -- a spin looks as P1, C1 do
 unfoldable pub spinMove : Own → (counter their spins : ℕ) → Move
-spinMove own counter their spins =
-    roomMove (roomOf (own .side) (capacity (own .power)) counter their) (To (toSpin spins))
+spinMove own counter their spins = roomMove (roomHere own counter their) (To (toSpin spins))
 
 -- B3, W3
 unfoldable pub againMove : Own → (counter their epoch : ℕ) → Move
-againMove own counter their epoch =
-    roomMove (roomOf (own .side) (capacity (own .power)) counter their) (To (GateAgain epoch))
+againMove own counter their epoch = roomMove (roomHere own counter their) (To (GateAgain epoch))
 
 -- B5, W5
 abbrev pub napMove : Nap → (operation error : ℕ) → Move
@@ -111,8 +108,7 @@ waitMove own word error epoch = napMove (napOf error (eqb word epoch)) (waitOp (
 
 -- B6, W6: a time-out is answered, or the other's close, over no room alone
 unfoldable pub lastMove : Own → (counter their : ℕ) → (timed : Bool) → Move
-lastMove own counter their timed =
-    roomMove (roomOf (own .side) (capacity (own .power)) counter their) (End (pick timed Timeout Closed))
+lastMove own counter their timed = roomMove (roomHere own counter their) (End (pick timed Timeout Closed))
 
 -- a close's first turn
 unfoldable pub closeMove : Own → Move

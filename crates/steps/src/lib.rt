@@ -1,8 +1,7 @@
 // Where a turn of a push or a pop leads, a function a step. A party's own copy of sizes and options is `own`.
 ghost use mathlib.Core.Path.{_≡_};
 ghost use Rattle.types.specs.Pick.{pick};
-ghost use Rattle.layout.specs.Limits.{capacity};
-ghost use Rattle.rules.specs.Looks.{roomOf};
+ghost use Rattle.rules.specs.Looks.{roomHere};
 ghost use Rattle.rules.specs.Steps.{roomMove, blockedMove, lookMove, fitMove, copyWith, copyMove, publishMove, checkMove, unlessFailed, wakeMove};
 use looks::Error;
 use types::Answer;
@@ -15,7 +14,7 @@ use types::Step;
 
 // What the other side's counter says to a party.
 pub fn room_here(own: Own, counter: u64, their: u64) -> Room
-    ensures { λ r. ⌜ r ≡ roomOf (own .side) (capacity (own .power)) counter their ⌝ }
+    ensures { λ r. ⌜ r ≡ roomHere own counter their ⌝ }
 {
     let side = own.side;
     let capacity = sizes::capacity(own.power);

@@ -24,11 +24,11 @@ pub enum Mark {
 }
 
 // Where a party stands. Both sides walk the same steps: Look is P1 and C1, Copy P2 and C2, Publish P3 and C3, Check P4
-// and C4, Raise P5 and C5, Wake P6 and C6, Gate B1 and W1, Spin a look between these and Epoch, which is B2 and W2, Again B3 and
-// W3, GateAgain B4 and W4, Wait B5 and W5, LastLook B6 and W6, the look before 11 or 13 is answered. A step carries what
-// later turns need of earlier ones: from Publish to Wake the length and the tag of the note that a pop took, at a spin how
-// many more follow it, from Again to Wait the epoch, at a last look whether a time-out led to it, in a shutdown whether
-// corruption began it and, from its second raise on, the first error.
+// and C4, Raise P5 and C5, Wake P6 and C6, Gate B1 and W1, Spin a look after these, Epoch B2 and W2, Again B3 and W3,
+// GateAgain B4 and W4, Wait B5 and W5, LastLook B6 and W6, the look before 11 or 13 is answered. A step carries what
+// later turns need of earlier ones: from Publish to Wake the length and the tag of the note that a pop took, at a spin
+// how many more follow it, from Again to Wait the epoch, at a last look whether a time-out led to it, in a shutdown
+// whether corruption began it and, from its second raise on, the first error.
 pub enum Step {
     Rest,
     Look,
