@@ -1,6 +1,6 @@
 // The one access of a turn on a lent region.
 ghost use Rattle.std.specs.Prelude.{◌≡◌, length};
-ghost use Rattle.rules.specs.Access.{value_of, leavesOf, bufferOf};
+ghost use Rattle.rules.specs.Access.{value_of, leaves_of, buffer_of};
 ghost use Rattle.access.specs.Fitted.{Fitted};
 
 use header::Header;
@@ -18,8 +18,8 @@ pub fn perform(
 ) -> u64
     requires { Fitted own a (length region.old) (length payload.now) named (length buffer.old) }
     ensures value { result ≡ value_of region.old own a }
-    ensures leaves { region.new ≡ leavesOf region.old own a tag payload.now }
-    ensures given { buffer.new ≡ bufferOf region.old own a named buffer.old }
+    ensures leaves { region.new ≡ leaves_of region.old own a tag payload.now }
+    ensures given { buffer.new ≡ buffer_of region.old own a named buffer.old }
 {
     match a {
         Access::None => 0,

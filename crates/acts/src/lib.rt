@@ -1,16 +1,16 @@
 // A turn that is not refused: the party's next access, that access, and what becomes of the party.
 ghost use Rattle.std.specs.Prelude.{◌≡◌, length};
-ghost use Rattle.rules.specs.Next.{nextSpec};
-ghost use Rattle.rules.specs.Turn.{actSpec, actLeaves, actBuffer};
+ghost use Rattle.rules.specs.Next.{next_spec};
+ghost use Rattle.rules.specs.Turn.{act_spec, act_leaves, act_buffer};
 ghost use Rattle.access.specs.Fitted.{Fitted};
 
 use types::{Party, Turned};
 
 pub fn act(region: &mut [u8], p: Party, payload: &[u8], buffer: &mut [u8], error: u16) -> Turned
-    requires { Fitted p.own (nextSpec p) (length region.old) (length payload.now) p.length (length buffer.old) }
-    ensures value { result ≡ actSpec region.old p error }
-    ensures leaves { region.new ≡ actLeaves region.old p payload.now }
-    ensures given { buffer.new ≡ actBuffer region.old p buffer.old }
+    requires { Fitted p.own (next_spec p) (length region.old) (length payload.now) p.length (length buffer.old) }
+    ensures value { result ≡ act_spec region.old p error }
+    ensures leaves { region.new ≡ act_leaves region.old p payload.now }
+    ensures given { buffer.new ≡ act_buffer region.old p buffer.old }
 {
     let own = p.own;
     let a = next::next(p);

@@ -1,18 +1,18 @@
 // What a record asks, played on the bench.
 ghost use Rattle.std.specs.Prelude.{◌≡◌, length};
-ghost use Rattle.records.specs.Records.{payloadBytes};
-ghost use Rattle.opening.specs.Night.{nightOf};
-ghost use Rattle.asked.specs.Played.{playedBy, regionBy, bufferBy};
+ghost use Rattle.records.specs.Records.{payload_bytes};
+ghost use Rattle.opening.specs.Night.{night_of};
+ghost use Rattle.asked.specs.Played.{played_by, region_by, buffer_by};
 
 use records::Asked;
 use types::{Answer, Bench, Event, Played};
 
 // An event, lent as much of payload and buffer as the calls named.
 fn play_event(region: &mut [u8], b: Bench, e: Event, payload: &[u8], buffer: &mut [u8]) -> Played
-    requires { (length payload.now ≡ payloadBytes) × (length buffer.old ≡ payloadBytes) }
-    ensures value { result ≡ playedBy (Asked.Plays e) (nightOf region.old b payload.now buffer.old) }
-    ensures leaves { region.new ≡ regionBy (Asked.Plays e) (nightOf region.old b payload.now buffer.old) }
-    ensures given { buffer.new ≡ bufferBy (Asked.Plays e) (nightOf region.old b payload.now buffer.old) }
+    requires { (length payload.now ≡ payload_bytes) × (length buffer.old ≡ payload_bytes) }
+    ensures value { result ≡ played_by (Asked.Plays e) (night_of region.old b payload.now buffer.old) }
+    ensures leaves { region.new ≡ region_by (Asked.Plays e) (night_of region.old b payload.now buffer.old) }
+    ensures given { buffer.new ≡ buffer_by (Asked.Plays e) (night_of region.old b payload.now buffer.old) }
 {
     let sender = b.sender;
     let recorder = b.recorder;
@@ -28,10 +28,10 @@ pub fn play_asked(
     payload: &[u8],
     buffer: &mut [u8],
 ) -> Played
-    requires { (length payload.now ≡ payloadBytes) × (length buffer.old ≡ payloadBytes) }
-    ensures value { result ≡ playedBy a (nightOf region.old b payload.now buffer.old) }
-    ensures leaves { region.new ≡ regionBy a (nightOf region.old b payload.now buffer.old) }
-    ensures given { buffer.new ≡ bufferBy a (nightOf region.old b payload.now buffer.old) }
+    requires { (length payload.now ≡ payload_bytes) × (length buffer.old ≡ payload_bytes) }
+    ensures value { result ≡ played_by a (night_of region.old b payload.now buffer.old) }
+    ensures leaves { region.new ≡ region_by a (night_of region.old b payload.now buffer.old) }
+    ensures given { buffer.new ≡ buffer_by a (night_of region.old b payload.now buffer.old) }
 {
     match a {
         Asked::Plays(e) => play_event(region, b, e, payload, buffer),

@@ -1,11 +1,11 @@
 // Attach: the record of the party that joins a region, once its spin count and the region have passed their checks.
 ghost use Rattle.std.specs.Prelude.{◌≡◌, ◌≤◌, length};
-ghost use Rattle.words.specs.Le.{leAt, putLe};
+ghost use Rattle.words.specs.Le.{le_at, put_le};
 ghost use Rattle.types.specs.Answers.{first_of};
-ghost use Rattle.layout.specs.Limits.{headerBytes};
-ghost use Rattle.layout.specs.Flags.{worth, setBit, attachMark};
-ghost use Rattle.layout.specs.Header.{flagsAt};
-ghost use Rattle.layout.specs.Attach.{fresh, unattached, attached, regionChecks, attachAnswer, attachReply, attachLeaves};
+ghost use Rattle.layout.specs.Limits.{header_bytes};
+ghost use Rattle.layout.specs.Flags.{worth, set_bit, attach_mark};
+ghost use Rattle.layout.specs.Header.{flags_at};
+ghost use Rattle.layout.specs.Attach.{fresh, unattached, attached, region_checks, attach_answer, attach_reply, attach_leaves};
 
 use header::Header;
 use types::{Answer, Own, Party, Reply, Side, Step};
@@ -41,7 +41,7 @@ fn unattached(side: Side) -> Party
 
 // The party's own copy of its counter, the sizes and the option, and its spin count.
 fn attached(region: &[u8], side: Side, spins: u16) -> Party
-    requires { headerBytes ≤ length region.now }
+    requires { header_bytes ≤ length region.now }
     ensures { result ≡ attached region.now side spins }
 {
     let own = Own {
@@ -56,8 +56,8 @@ fn attached(region: &[u8], side: Side, spins: u16) -> Party
 }
 
 fn set_own_bit(region: &mut [u8], side: Side)
-    requires { headerBytes ≤ length region.old }
-    ensures { region.new ≡ putLe 4 region.old flagsAt (setBit (worth (attachMark side)) (leAt 4 region.old flagsAt)) }
+    requires { header_bytes ≤ length region.old }
+    ensures { region.new ≡ put_le 4 region.old flags_at (set_bit (worth (attach_mark side)) (le_at 4 region.old flags_at)) }
 {
     let flags = Header::flags(region);
     let own = Header::attach_mark(side);
@@ -66,7 +66,7 @@ fn set_own_bit(region: &mut [u8], side: Side)
 
 // A region too short for a header has no fields to check.
 fn region_answer(region: &[u8], side: Side) -> Answer
-    ensures { result ≡ first_of (regionChecks region.now side) }
+    ensures { result ≡ first_of (region_checks region.now side) }
 {
     if region.len() < Header::BYTES {
         return Answer::InvalidLayout;
@@ -76,7 +76,7 @@ fn region_answer(region: &[u8], side: Side) -> Answer
 
 // A count above the limit is refused before anything of the region is looked at.
 fn attach_answer(region: &[u8], side: Side, spins: u16) -> Answer
-    ensures { result ≡ attachAnswer region.now side spins }
+    ensures { result ≡ attach_answer region.now side spins }
 {
     if !sizes::spins_ok(spins) {
         return Answer::BadCall;
@@ -85,8 +85,8 @@ fn attach_answer(region: &[u8], side: Side, spins: u16) -> Answer
 }
 
 pub fn attach(region: &mut [u8], side: Side, spins: u16) -> Reply
-    ensures reply { result ≡ attachReply region.old side spins }
-    ensures leaves { region.new ≡ attachLeaves region.old side spins }
+    ensures reply { result ≡ attach_reply region.old side spins }
+    ensures leaves { region.new ≡ attach_leaves region.old side spins }
 {
     let answer = attach_answer(region, side, spins);
     let told = answer.told();

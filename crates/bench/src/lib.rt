@@ -1,7 +1,7 @@
 // Both parties and their sleeping places: what an event of a run makes of them, of the region and of the buffer.
 ghost use Rattle.std.specs.Prelude.{◌≡◌};
-ghost use Rattle.rules.specs.Turn.{turnLeaves, turnBuffer};
-ghost use Rattle.rules.specs.Bench.{partyOf, turnPlayed, played, playedLeaves, playedBuffer};
+ghost use Rattle.rules.specs.Turn.{turn_leaves, turn_buffer};
+ghost use Rattle.rules.specs.Bench.{party_of, turn_played, played, played_leaves, played_buffer};
 
 use types::{Bench, Event, Fault, Played, Side};
 
@@ -13,9 +13,9 @@ fn turn(
     buffer: &mut [u8],
     fault: Fault,
 ) -> Played
-    ensures value { result ≡ turnPlayed region.old b payload.now buffer.old side fault }
-    ensures leaves { region.new ≡ turnLeaves side region.old (partyOf b side) payload.now buffer.old fault }
-    ensures given { buffer.new ≡ turnBuffer side region.old (partyOf b side) payload.now buffer.old fault }
+    ensures value { result ≡ turn_played region.old b payload.now buffer.old side fault }
+    ensures leaves { region.new ≡ turn_leaves side region.old (party_of b side) payload.now buffer.old fault }
+    ensures given { buffer.new ≡ turn_buffer side region.old (party_of b side) payload.now buffer.old fault }
 {
     let p = seats::party_of(b, side);
     let t = turns::turn(side, region, p, payload, buffer, fault);
@@ -25,8 +25,8 @@ fn turn(
 // One event. The payload and the buffer are lent to its turn, and no other event touches them.
 pub fn play(region: &mut [u8], b: Bench, e: Event, payload: &[u8], buffer: &mut [u8]) -> Played
     ensures value { result ≡ played region.old b payload.now buffer.old e }
-    ensures leaves { region.new ≡ playedLeaves region.old b payload.now buffer.old e }
-    ensures given { buffer.new ≡ playedBuffer region.old b payload.now buffer.old e }
+    ensures leaves { region.new ≡ played_leaves region.old b payload.now buffer.old e }
+    ensures given { buffer.new ≡ played_buffer region.old b payload.now buffer.old e }
 {
     match e {
         Event::Turn(side) => turn(region, b, side, payload, buffer, Fault::Fine),

@@ -1,11 +1,11 @@
 // A party between its turns: the calls that it begins, and what comes to it while it sleeps.
 ghost use Rattle.std.specs.Prelude.{◌≡◌};
-ghost use Rattle.rules.specs.Calls.{pushSpec, popSpec, closeSpec, shutSpec, spuriousSpec, timeoutSpec};
+ghost use Rattle.rules.specs.Calls.{push_spec, pop_spec, close_spec, shut_spec, spurious_spec, timeout_spec};
 
 use types::{Answer, Party, Reply, Side, Step};
 
 pub fn begin_push(p: Party, blocking: bool, tag: u16, length: u32) -> Reply
-    ensures { result ≡ pushSpec p blocking tag length }
+    ensures { result ≡ push_spec p blocking tag length }
 {
     let own = p.own;
     let goes = sound::ready(Side::Sender, p);
@@ -17,7 +17,7 @@ pub fn begin_push(p: Party, blocking: bool, tag: u16, length: u32) -> Reply
 
 // A pop names no tag.
 pub fn begin_pop(p: Party, blocking: bool, length: u32) -> Reply
-    ensures { result ≡ popSpec p blocking length }
+    ensures { result ≡ pop_spec p blocking length }
 {
     let goes = sound::ready(Side::Recorder, p);
     let begun = replies::named(p, blocking, 0, length);
@@ -25,7 +25,7 @@ pub fn begin_pop(p: Party, blocking: bool, length: u32) -> Reply
 }
 
 pub fn begin_close(side: Side, p: Party) -> Reply
-    ensures { result ≡ closeSpec side p }
+    ensures { result ≡ close_spec side p }
 {
     let goes = sound::ready(side, p);
     let begun = replies::at(p, Step::CloseSet);
@@ -34,7 +34,7 @@ pub fn begin_close(side: Side, p: Party) -> Reply
 
 // A shutdown may be begun after one's own close.
 pub fn begin_shutdown(side: Side, p: Party) -> Reply
-    ensures { result ≡ shutSpec side p }
+    ensures { result ≡ shut_spec side p }
 {
     let goes = sound::ready(side, p);
     let begun = replies::at(p, Step::ShutSet(false));
@@ -43,7 +43,7 @@ pub fn begin_shutdown(side: Side, p: Party) -> Reply
 
 // A spurious return leads a sleeper to its look.
 pub fn spurious(side: Side, p: Party) -> Reply
-    ensures { result ≡ spuriousSpec side p }
+    ensures { result ≡ spurious_spec side p }
 {
     let asleep = sound::sleeps(p);
     let goes = sound::sound(side, p);
@@ -54,7 +54,7 @@ pub fn spurious(side: Side, p: Party) -> Reply
 
 // A time-out leads a sleeper to its last look, which ends the call over no room alone.
 pub fn time_out(side: Side, p: Party) -> Reply
-    ensures { result ≡ timeoutSpec side p }
+    ensures { result ≡ timeout_spec side p }
 {
     let asleep = sound::sleeps(p);
     let goes = sound::sound(side, p);

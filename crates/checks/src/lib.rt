@@ -1,31 +1,31 @@
 // The checks of a region that a party would join, in their order.
 ghost use Rattle.std.specs.Prelude.{◌≡◌, ◌&&◌, ◌+◌, ◌≤◌, eqb, length};
 ghost use Rattle.types.specs.Answers.{first_of};
-ghost use Rattle.layout.specs.Limits.{headerBytes};
-ghost use Rattle.layout.specs.Header.{reserved, allZero};
-ghost use Rattle.layout.specs.Attach.{magicOk, versionOk, sizesOk, flagChecks, ringChecks, regionChecks};
+ghost use Rattle.layout.specs.Limits.{header_bytes};
+ghost use Rattle.layout.specs.Header.{reserved, all_zero};
+ghost use Rattle.layout.specs.Attach.{magic_ok, version_ok, sizes_ok, flag_checks, ring_checks, region_checks};
 
 use header::Header;
 use sizes::Limits;
 use types::{Answer, Side};
 
 fn magic_ok(region: &[u8]) -> bool
-    requires { headerBytes ≤ length region.now }
-    ensures { result ≡ magicOk region.now }
+    requires { header_bytes ≤ length region.now }
+    ensures { result ≡ magic_ok region.now }
 {
     scans::same_bytes(region, 0, &Header::MAGIC)
 }
 
 fn version_ok(region: &[u8]) -> bool
-    requires { headerBytes ≤ length region.now }
-    ensures { result ≡ versionOk region.now }
+    requires { header_bytes ≤ length region.now }
+    ensures { result ≡ version_ok region.now }
 {
     types::both(Header::major(region) == 0, Header::minor(region) == 1)
 }
 
 // The total is the header and the ring. The header is taken off the total, since the sum might wrap.
 fn adds_up(total: u64, ring: u64) -> bool
-    ensures { result ≡ eqb total (headerBytes + ring) }
+    ensures { result ≡ eqb total (header_bytes + ring) }
 {
     if total < Limits::HEADER_BYTES {
         return false;
@@ -34,8 +34,8 @@ fn adds_up(total: u64, ring: u64) -> bool
 }
 
 fn sizes_ok(region: &[u8]) -> bool
-    requires { headerBytes ≤ length region.now }
-    ensures { result ≡ sizesOk region.now }
+    requires { header_bytes ≤ length region.now }
+    ensures { result ≡ sizes_ok region.now }
 {
     let total = Header::total_size(region);
     let whole = adds_up(total, Header::ring_bytes(region));
@@ -47,8 +47,8 @@ fn sizes_ok(region: &[u8]) -> bool
 
 // The header's bytes that are in no field.
 fn reserved_ok(region: &[u8]) -> bool
-    requires { headerBytes ≤ length region.now }
-    ensures { result ≡ allZero region.now reserved }
+    requires { header_bytes ≤ length region.now }
+    ensures { result ≡ all_zero region.now reserved }
 {
     let bells = types::both(
         scans::all_zero(region, 60, 0x104),
@@ -63,7 +63,7 @@ fn reserved_ok(region: &[u8]) -> bool
 }
 
 fn check_flags(flags: u32, side: Side) -> Answer
-    ensures { result ≡ first_of (flagChecks flags side) }
+    ensures { result ≡ first_of (flag_checks flags side) }
 {
     let mark = Header::attach_mark(side);
     if Header::RESERVED_FROM <= flags {
@@ -79,8 +79,8 @@ fn check_flags(flags: u32, side: Side) -> Answer
 }
 
 fn check_ring(region: &[u8], side: Side) -> Answer
-    requires { headerBytes ≤ length region.now }
-    ensures { result ≡ first_of (ringChecks region.now side) }
+    requires { header_bytes ≤ length region.now }
+    ensures { result ≡ first_of (ring_checks region.now side) }
 {
     let slot = Header::slot_size(region);
     let power = Header::power(region);
@@ -103,8 +103,8 @@ fn check_ring(region: &[u8], side: Side) -> Answer
 
 // All checks of a region that has room for a header.
 pub fn check(region: &[u8], side: Side) -> Answer
-    requires { headerBytes ≤ length region.now }
-    ensures { result ≡ first_of (regionChecks region.now side) }
+    requires { header_bytes ≤ length region.now }
+    ensures { result ≡ first_of (region_checks region.now side) }
 {
     if !magic_ok(region) {
         return Answer::InvalidMagic;

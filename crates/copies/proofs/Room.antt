@@ -2,18 +2,18 @@
 use Prim.Native.Nat.{ℕ, ◌+◌, ◌≤◌}
 use native.Mathlib.Omega.{arith}
 use Rattle.types.specs.declared.Own.{Own}
-use Rattle.layout.specs.Limits.{headerBytes, slotHeadBytes, totalBytes}
+use Rattle.layout.specs.Limits.{header_bytes, slot_head_bytes, total_bytes}
 use Rattle.layout.proofs.SizeLaws.{slot-least, slot-within}
 use Rattle.rules.specs.Access.{place_of}
 use Rattle.copies.specs.Sized.{Sized}
 
 module _ {own : Own} {region : ℕ} (s : Sized own region) where
-  pub header-in : headerBytes ≤ region
-  unfolding totalBytes
+  pub header-in : header_bytes ≤ region
+  unfolding total_bytes
   header-in = omega (arith, s.whole)
 
   pub place_in : (count : ℕ) → place_of own count + own.slot ≤ region
   place_in count = rw s.whole (slot-within own.power s.power_in own.slot count)
 
-  pub head_in : slotHeadBytes ≤ own.slot
+  pub head_in : slot_head_bytes ≤ own.slot
   head_in = omega (arith, slot-least own.slot s.slot-in)

@@ -1,16 +1,16 @@
 // The slot of a counter, copied in and out. A party goes by its own sizes and never by the region's.
 ghost use Rattle.std.specs.Prelude.{◌≡◌, true, ◌+◌, ◌≤◌, length};
 ghost use Rattle.words.specs.Bytes.{part};
-ghost use Rattle.layout.specs.Limits.{slotHeadBytes, powerOk, payloadCapacity};
-ghost use Rattle.layout.specs.Slots.{headWord, slotPut};
-ghost use Rattle.rules.specs.Access.{place_of, slot_of, copiedOut, readOut};
+ghost use Rattle.layout.specs.Limits.{slot_head_bytes, power_ok, payload_capacity};
+ghost use Rattle.layout.specs.Slots.{head_word, slot_put};
+ghost use Rattle.rules.specs.Access.{place_of, slot_of, copied_out, read_out};
 ghost use Rattle.copies.specs.Sized.{Sized};
 
 use types::{Fit, Own};
 
 // Where the slot of a counter begins.
 fn place(own: Own, count: u64) -> usize
-    requires { powerOk own.power ≡ true }
+    requires { power_ok own.power ≡ true }
     ensures { result ≡ place_of own count }
 {
     sizes::slot_at(own.power, own.slot, count)
@@ -18,8 +18,8 @@ fn place(own: Own, count: u64) -> usize
 
 // A push's copy into the slot of a counter.
 pub fn write_slot(region: &mut [u8], own: Own, count: u64, tag: u16, payload: &[u8])
-    requires { Sized own (length region.old) × (length payload.now ≤ payloadCapacity own.slot) }
-    ensures { region.new ≡ slotPut region.old (place_of own count) tag payload.now }
+    requires { Sized own (length region.old) × (length payload.now ≤ payload_capacity own.slot) }
+    ensures { region.new ≡ slot_put region.old (place_of own count) tag payload.now }
 {
     let at = place(own, count);
     let size = own.slot as usize;
@@ -28,8 +28,8 @@ pub fn write_slot(region: &mut [u8], own: Own, count: u64, tag: u16, payload: &[
 
 // The payload of the slot of size bytes at at, where it fits.
 fn deliver(f: Fit, region: &[u8], at: usize, size: usize, count: usize, buffer: &mut [u8])
-    requires { (at + size ≤ length region.now) × (f ≡ Fit.Fits → (slotHeadBytes + count ≤ size) × (count ≤ length buffer.old)) }
-    ensures { buffer.new ≡ copiedOut f buffer.old (part region.now at size) count }
+    requires { (at + size ≤ length region.now) × (f ≡ Fit.Fits → (slot_head_bytes + count ≤ size) × (count ≤ length buffer.old)) }
+    ensures { buffer.new ≡ copied_out f buffer.old (part region.now at size) count }
 {
     match f {
         Fit::Bad => {}
@@ -41,8 +41,8 @@ fn deliver(f: Fit, region: &[u8], at: usize, size: usize, count: usize, buffer: 
 // A pop's copy out of the slot of a counter: its header as one word, and the payload where it fits.
 pub fn read_slot(region: &[u8], own: Own, count: u64, named: u32, buffer: &mut [u8]) -> u64
     requires { Sized own (length region.now) × (named ≤ length buffer.old) }
-    ensures value { result ≡ headWord (slot_of region.now own count) }
-    ensures given { buffer.new ≡ readOut named (payloadCapacity own.slot) buffer.old (slot_of region.now own count) }
+    ensures value { result ≡ head_word (slot_of region.now own count) }
+    ensures given { buffer.new ≡ read_out named (payload_capacity own.slot) buffer.old (slot_of region.now own count) }
 {
     let at = place(own, count);
     let size = own.slot as usize;

@@ -1,12 +1,12 @@
 // Creation of a region: a whole header, and no byte of the ring.
 ghost use Rattle.std.specs.Prelude.{◌≡◌, ◌+◌, length};
-ghost use Rattle.layout.specs.Create.{createAnswer, firstFlags, createLeaves};
+ghost use Rattle.layout.specs.Create.{create_answer, first_flags, create_leaves};
 
 use header::Header;
 use types::Answer;
 
 fn first_flags(notfull: bool) -> u32
-    ensures { result ≡ firstFlags notfull }
+    ensures { result ≡ first_flags notfull }
 {
     if notfull {
         Header::INITIALISED + Header::NOT_FULL_ON
@@ -17,8 +17,8 @@ fn first_flags(notfull: bool) -> u32
 
 // Both counters begin at start, which is 0 in service.
 pub fn create(region: &mut [u8], power: u8, slot: u32, notfull: bool, start: u64) -> Answer
-    ensures answer { result ≡ createAnswer (length region.old) power slot }
-    ensures leaves { region.new ≡ createLeaves region.old power slot notfull start }
+    ensures answer { result ≡ create_answer (length region.old) power slot }
+    ensures leaves { region.new ≡ create_leaves region.old power slot notfull start }
 {
     let slot_fits = sizes::slot_ok(slot);
     let power_fits = sizes::power_ok(power);

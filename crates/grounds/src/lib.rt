@@ -1,13 +1,13 @@
 // The grounds on which a turn is refused before it is played.
 ghost use Rattle.std.specs.Prelude.{◌≡◌};
-ghost use Rattle.rules.specs.Turn.{errorOf, faultOk, lentTo, lentOk, goes};
-ghost use Rattle.rules.specs.Take.{stanceOf};
+ghost use Rattle.rules.specs.Turn.{error_of, fault_ok, lent_to, lent_ok, goes};
+ghost use Rattle.rules.specs.Take.{stance_of};
 
 use types::{Fault, Party, Side, Stance};
 
 // The error as a turn takes it: 0 for none.
 pub fn error_of(fault: Fault) -> u16
-    ensures { result ≡ errorOf fault }
+    ensures { result ≡ error_of fault }
 {
     match fault {
         Fault::Fine => 0,
@@ -17,7 +17,7 @@ pub fn error_of(fault: Fault) -> u16
 
 // So none may be announced as 0.
 fn fault_ok(fault: Fault) -> bool
-    ensures { result ≡ faultOk fault }
+    ensures { result ≡ fault_ok fault }
 {
     match fault {
         Fault::Fine => true,
@@ -27,7 +27,7 @@ fn fault_ok(fault: Fault) -> bool
 
 // Of what a turn is lent, the part that the side's own copy uses.
 fn lent_to(side: Side, payload: usize, buffer: usize) -> usize
-    ensures { result ≡ lentTo side payload buffer }
+    ensures { result ≡ lent_to side payload buffer }
 {
     match side {
         Side::Sender => payload,
@@ -37,7 +37,7 @@ fn lent_to(side: Side, payload: usize, buffer: usize) -> usize
 
 // What is lent matters at a copy alone.
 fn lent_ok(stance: Stance, lent: usize, named: usize) -> bool
-    ensures { result ≡ lentOk stance lent named }
+    ensures { result ≡ lent_ok stance lent named }
 {
     match stance {
         Stance::Resting => true,
@@ -51,7 +51,7 @@ fn lent_ok(stance: Stance, lent: usize, named: usize) -> bool
 
 // Whether the copy that a party may be at is lent what its call named.
 fn lent_as_named(side: Side, p: Party, payload: usize, buffer: usize) -> bool
-    ensures { result ≡ lentOk (stanceOf p.step) (lentTo side payload buffer) p.length }
+    ensures { result ≡ lent_ok (stance_of p.step) (lent_to side payload buffer) p.length }
 {
     let step = p.step;
     let stance = sound::stance_of(step);

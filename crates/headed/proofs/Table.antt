@@ -2,14 +2,14 @@
 use mathlib.Core.Path.{◌≡◌, refl}
 use mathlib.Core.List.{List, ◌++◌}
 use Prim.Native.Nat.{ℕ}
-use Rattle.layout.specs.Header.{fields, putFields, blank, headed}
-use Rattle.headed.specs.Parts.{versionFields, sizeFields, givenFields, turnFields}
+use Rattle.layout.specs.Header.{fields, put_fields, blank, headed}
+use Rattle.headed.specs.Parts.{version_fields, size_fields, given_fields, turn_fields}
 
 module _ (ring power slot flags start : ℕ) where
-  pub parts-append : versionFields ++ (sizeFields ring ++ (givenFields power slot flags ++ turnFields start)) ≡ fields ring power slot flags start
+  pub parts-append : version_fields ++ (size_fields ring ++ (given_fields power slot flags ++ turn_fields start)) ≡ fields ring power slot flags start
   parts-append = refl
 
   pub parts-written : (r : List ℕ)
-      → putFields (turnFields start) (putFields (givenFields power slot flags) (putFields (sizeFields ring) (putFields versionFields (blank r)))) ≡ headed r ring power slot flags start
+      → put_fields (turn_fields start) (put_fields (given_fields power slot flags) (put_fields (size_fields ring) (put_fields version_fields (blank r)))) ≡ headed r ring power slot flags start
   unfolding headed
   parts-written r = refl

@@ -1,15 +1,15 @@
 // A whole header, written over whatever was there.
 ghost use Rattle.std.specs.Prelude.{◌≡◌, ◌+◌, ◌^◌, ◌<◌, ◌≤◌, length};
-ghost use Rattle.layout.specs.Limits.{headerBytes};
-ghost use Rattle.layout.specs.Header.{putFields, blank, headed};
-ghost use Rattle.headed.specs.Parts.{versionFields, sizeFields, givenFields, turnFields};
+ghost use Rattle.layout.specs.Limits.{header_bytes};
+ghost use Rattle.layout.specs.Header.{put_fields, blank, headed};
+ghost use Rattle.headed.specs.Parts.{version_fields, size_fields, given_fields, turn_fields};
 
 use header::Header;
 use sizes::Limits;
 
 // Zeros over the header, and the magic.
 fn write_blank(region: &mut [u8])
-    requires { headerBytes ≤ length region.old }
+    requires { header_bytes ≤ length region.old }
     ensures { region.new ≡ blank region.old }
 {
     runs::clear(region, Header::BYTES);
@@ -17,8 +17,8 @@ fn write_blank(region: &mut [u8])
 }
 
 fn write_version(region: &mut [u8])
-    requires { headerBytes ≤ length region.old }
-    ensures { region.new ≡ putFields versionFields region.old }
+    requires { header_bytes ≤ length region.old }
+    ensures { region.new ≡ put_fields version_fields region.old }
 {
     words::store16(region, Header::MAJOR, 0);
     words::store16(region, Header::MINOR, 1);
@@ -26,8 +26,8 @@ fn write_version(region: &mut [u8])
 }
 
 fn write_sizes(region: &mut [u8], ring: u64)
-    requires { (headerBytes ≤ length region.old) × (headerBytes + ring < 2 ^ 64) }
-    ensures { region.new ≡ putFields (sizeFields ring) region.old }
+    requires { (header_bytes ≤ length region.old) × (header_bytes + ring < 2 ^ 64) }
+    ensures { region.new ≡ put_fields (size_fields ring) region.old }
 {
     words::store64(region, Header::TOTAL_SIZE, Limits::HEADER_BYTES + ring);
     words::store64(region, Header::RING_OFFSET, Limits::HEADER_BYTES);
@@ -37,8 +37,8 @@ fn write_sizes(region: &mut [u8], ring: u64)
 }
 
 fn write_given(region: &mut [u8], power: u8, slot: u32, flags: u32)
-    requires { headerBytes ≤ length region.old }
-    ensures { region.new ≡ putFields (givenFields power slot flags) region.old }
+    requires { header_bytes ≤ length region.old }
+    ensures { region.new ≡ put_fields (given_fields power slot flags) region.old }
 {
     words::store8(region, Header::POWER, power);
     words::store32(region, Header::SLOT_SIZE, slot);
@@ -50,8 +50,8 @@ fn write_given(region: &mut [u8], power: u8, slot: u32, flags: u32)
 
 // Counters and bells.
 fn write_turns(region: &mut [u8], start: u64)
-    requires { headerBytes ≤ length region.old }
-    ensures { region.new ≡ putFields (turnFields start) region.old }
+    requires { header_bytes ≤ length region.old }
+    ensures { region.new ≡ put_fields (turn_fields start) region.old }
 {
     words::store64(region, Header::HEAD, start);
     words::store64(region, Header::TAIL, start);
@@ -60,7 +60,7 @@ fn write_turns(region: &mut [u8], start: u64)
 }
 
 pub fn write_header(region: &mut [u8], ring: u64, power: u8, slot: u32, flags: u32, start: u64)
-    requires { (headerBytes ≤ length region.old) × (headerBytes + ring < 2 ^ 64) }
+    requires { (header_bytes ≤ length region.old) × (header_bytes + ring < 2 ^ 64) }
     ensures { region.new ≡ headed region.old ring power slot flags start }
 {
     write_blank(region);

@@ -1,9 +1,9 @@
 // The header of a region: where its fields lie, what its flags are worth, and functions that read them.
 ghost use Rattle.std.specs.Prelude.{◌≡◌, ◌+◌, ◌≤◌, length};
-ghost use Rattle.words.specs.Le.{leAt};
-ghost use Rattle.layout.specs.Limits.{headerBytes};
-ghost use Rattle.layout.specs.Flags.{initialised, notFullOn, worth, bitOn, setBit, attachMark, closeMark};
-ghost use Rattle.layout.specs.Header.{majorAt, minorAt, headerSizeAt, totalSizeAt, ringOffsetAt, ringBytesAt, arenaOffsetAt, arenaBytesAt, powerAt, slotSizeAt, flagsAt, counterAt, bellAt};
+ghost use Rattle.words.specs.Le.{le_at};
+ghost use Rattle.layout.specs.Limits.{header_bytes};
+ghost use Rattle.layout.specs.Flags.{initialised, not_full_on, worth, bit_on, set_bit, attach_mark, close_mark};
+ghost use Rattle.layout.specs.Header.{major_at, minor_at, header_size_at, total_size_at, ring_offset_at, ring_bytes_at, arena_offset_at, arena_bytes_at, power_at, slot_size_at, flags_at, counter_at, bell_at};
 
 use types::{Bell, Mark, Side};
 
@@ -70,86 +70,86 @@ impl Header {
     pub const RESERVED_FROM: u32 = 0x80;
 
     pub fn major(region: &[u8]) -> u16
-        requires { headerBytes ≤ length region.now }
-        ensures { result ≡ leAt 2 region.now majorAt }
+        requires { header_bytes ≤ length region.now }
+        ensures { result ≡ le_at 2 region.now major_at }
     {
         words::load16(region, Header::MAJOR)
     }
 
     pub fn minor(region: &[u8]) -> u16
-        requires { headerBytes ≤ length region.now }
-        ensures { result ≡ leAt 2 region.now minorAt }
+        requires { header_bytes ≤ length region.now }
+        ensures { result ≡ le_at 2 region.now minor_at }
     {
         words::load16(region, Header::MINOR)
     }
 
     pub fn header_size(region: &[u8]) -> u32
-        requires { headerBytes ≤ length region.now }
-        ensures { result ≡ leAt 4 region.now headerSizeAt }
+        requires { header_bytes ≤ length region.now }
+        ensures { result ≡ le_at 4 region.now header_size_at }
     {
         words::load32(region, Header::HEADER_SIZE)
     }
 
     pub fn total_size(region: &[u8]) -> u64
-        requires { headerBytes ≤ length region.now }
-        ensures { result ≡ leAt 8 region.now totalSizeAt }
+        requires { header_bytes ≤ length region.now }
+        ensures { result ≡ le_at 8 region.now total_size_at }
     {
         words::load64(region, Header::TOTAL_SIZE)
     }
 
     pub fn ring_offset(region: &[u8]) -> u64
-        requires { headerBytes ≤ length region.now }
-        ensures { result ≡ leAt 8 region.now ringOffsetAt }
+        requires { header_bytes ≤ length region.now }
+        ensures { result ≡ le_at 8 region.now ring_offset_at }
     {
         words::load64(region, Header::RING_OFFSET)
     }
 
     pub fn ring_bytes(region: &[u8]) -> u64
-        requires { headerBytes ≤ length region.now }
-        ensures { result ≡ leAt 8 region.now ringBytesAt }
+        requires { header_bytes ≤ length region.now }
+        ensures { result ≡ le_at 8 region.now ring_bytes_at }
     {
         words::load64(region, Header::RING_BYTES)
     }
 
     pub fn arena_offset(region: &[u8]) -> u64
-        requires { headerBytes ≤ length region.now }
-        ensures { result ≡ leAt 8 region.now arenaOffsetAt }
+        requires { header_bytes ≤ length region.now }
+        ensures { result ≡ le_at 8 region.now arena_offset_at }
     {
         words::load64(region, Header::ARENA_OFFSET)
     }
 
     pub fn arena_bytes(region: &[u8]) -> u64
-        requires { headerBytes ≤ length region.now }
-        ensures { result ≡ leAt 8 region.now arenaBytesAt }
+        requires { header_bytes ≤ length region.now }
+        ensures { result ≡ le_at 8 region.now arena_bytes_at }
     {
         words::load64(region, Header::ARENA_BYTES)
     }
 
     pub fn power(region: &[u8]) -> u8
-        requires { headerBytes ≤ length region.now }
-        ensures { result ≡ leAt 1 region.now powerAt }
+        requires { header_bytes ≤ length region.now }
+        ensures { result ≡ le_at 1 region.now power_at }
     {
         words::load8(region, Header::POWER)
     }
 
     pub fn slot_size(region: &[u8]) -> u32
-        requires { headerBytes ≤ length region.now }
-        ensures { result ≡ leAt 4 region.now slotSizeAt }
+        requires { header_bytes ≤ length region.now }
+        ensures { result ≡ le_at 4 region.now slot_size_at }
     {
         words::load32(region, Header::SLOT_SIZE)
     }
 
     pub fn flags(region: &[u8]) -> u32
-        requires { headerBytes ≤ length region.now }
-        ensures { result ≡ leAt 4 region.now flagsAt }
+        requires { header_bytes ≤ length region.now }
+        ensures { result ≡ le_at 4 region.now flags_at }
     {
         words::load32(region, Header::FLAGS)
     }
 
     // Where a side's own counter lies.
     pub fn counter_at(side: Side) -> usize
-        ensures is { result ≡ counterAt side }
-        ensures within { result + 8 ≤ headerBytes }
+        ensures is { result ≡ counter_at side }
+        ensures within { result + 8 ≤ header_bytes }
     {
         match side {
             Side::Sender => Header::HEAD,
@@ -158,8 +158,8 @@ impl Header {
     }
 
     pub fn bell_at(b: Bell) -> usize
-        ensures is { result ≡ bellAt b }
-        ensures within { result + 4 ≤ headerBytes }
+        ensures is { result ≡ bell_at b }
+        ensures within { result + 4 ≤ header_bytes }
     {
         match b {
             Bell::NotEmpty => Header::NOT_EMPTY,
@@ -168,33 +168,33 @@ impl Header {
     }
 
     pub fn counter(region: &[u8], side: Side) -> u64
-        requires { headerBytes ≤ length region.now }
-        ensures { result ≡ leAt 8 region.now (counterAt side) }
+        requires { header_bytes ≤ length region.now }
+        ensures { result ≡ le_at 8 region.now (counter_at side) }
     {
         words::load64(region, Header::counter_at(side))
     }
 
     pub fn bell(region: &[u8], b: Bell) -> u32
-        requires { headerBytes ≤ length region.now }
-        ensures { result ≡ leAt 4 region.now (bellAt b) }
+        requires { header_bytes ≤ length region.now }
+        ensures { result ≡ le_at 4 region.now (bell_at b) }
     {
         words::load32(region, Header::bell_at(b))
     }
 
     pub fn initialised(flags: u32) -> bool
-        ensures { result ≡ bitOn initialised flags }
+        ensures { result ≡ bit_on initialised flags }
     {
         flags / Header::INITIALISED % 2 == 1
     }
 
     pub fn notfull_on(flags: u32) -> bool
-        ensures { result ≡ bitOn notFullOn flags }
+        ensures { result ≡ bit_on not_full_on flags }
     {
         flags / Header::NOT_FULL_ON % 2 == 1
     }
 
     pub fn has(flags: u32, mark: Mark) -> bool
-        ensures { result ≡ bitOn (worth mark) flags }
+        ensures { result ≡ bit_on (worth mark) flags }
     {
         match mark {
             Mark::SenderAttached => flags / Header::SENDER_ATTACHED % 2 == 1,
@@ -207,7 +207,7 @@ impl Header {
 
     // The flags with that bit set. A bit that is clear has room for its worth.
     pub fn with_mark(flags: u32, mark: Mark) -> u32
-        ensures { result ≡ setBit (worth mark) flags }
+        ensures { result ≡ set_bit (worth mark) flags }
     {
         let on = Header::has(flags, mark);
         if on {
@@ -223,7 +223,7 @@ impl Header {
     }
 
     pub fn attach_mark(side: Side) -> Mark
-        ensures { result ≡ attachMark side }
+        ensures { result ≡ attach_mark side }
     {
         match side {
             Side::Sender => Mark::SenderAttached,
@@ -232,7 +232,7 @@ impl Header {
     }
 
     pub fn close_mark(side: Side) -> Mark
-        ensures { result ≡ closeMark side }
+        ensures { result ≡ close_mark side }
     {
         match side {
             Side::Sender => Mark::SenderClosed,

@@ -9,11 +9,11 @@ use native.Mathlib.Nat.{zero-add}
 use lib.Dec.{T, leb, leb→le}
 use lib.ListN.{length, get_or, replicate, length-replicate, get_or-replicate}
 use lib.Seq.{sets, length-sets}
-use Rattle.words.specs.Le.{leAt, putLe}
+use Rattle.words.specs.Le.{le_at, put_le}
 use Rattle.words.proofs.Sets.{Apart, outside, sets-in, sets-other}
-use Rattle.words.proofs.Laws.{leAt-putLe, putLe-other, leAt-ext, length-putLe, putLe-over, putLe-swap}
-use Rattle.layout.specs.Limits.{headerBytes}
-use Rattle.layout.specs.Header.{magic, Field, field, putFields, blank}
+use Rattle.words.proofs.Laws.{le_at-put_le, put_le-other, le_at-ext, length-put_le, put_le-over, put_le-swap}
+use Rattle.layout.specs.Limits.{header_bytes}
+use Rattle.layout.specs.Header.{magic, Field, field, put_fields, blank}
 use Rattle.layout.proofs.Bools.{and_left, and_right, or_case}
 
 -- the v bytes from j on are apart from every field of the table
@@ -32,24 +32,24 @@ apart-first j v width at value fs t = apart-field j v width at (and_left (leb (j
 apart-rest : (j v width at value : ℕ) (fs : List Field) → T (apart j v (field width at value ∷ fs)) → T (apart j v fs)
 apart-rest j v width at value fs t = and_right (leb (j + v) at || leb (at + width) j) (apart j v fs) t
 
-pub length_fields : (fs : List Field) (s : List ℕ) → length (putFields fs s) ≡ length s
+pub length_fields : (fs : List Field) (s : List ℕ) → length (put_fields fs s) ≡ length s
 length_fields [] s = refl
-length_fields (field width at value ∷ fs) s = length_fields fs (putLe width s at value) ∙ length-putLe width s at value
+length_fields (field width at value ∷ fs) s = length_fields fs (put_le width s at value) ∙ length-put_le width s at value
 
 -- a byte that is apart from every field is as it was
-pub fields-other : (fs : List Field) (s : List ℕ) (j v k : ℕ) → T (apart j v fs) → k < v → get_or (putFields fs s) (j + k) 0 ≡ get_or s (j + k) 0
+pub fields-other : (fs : List Field) (s : List ℕ) (j v k : ℕ) → T (apart j v fs) → k < v → get_or (put_fields fs s) (j + k) 0 ≡ get_or s (j + k) 0
 fields-other [] s j v k t h = refl
 fields-other (field width at value ∷ fs) s j v k t h =
-    fields-other fs (putLe width s at value) j v k (apart-rest j v width at value fs t) h
-    ∙ putLe-other width s at value (j + k) (outside at width j v k (apart-first j v width at value fs t) h)
+    fields-other fs (put_le width s at value) j v k (apart-rest j v width at value fs t) h
+    ∙ put_le-other width s at value (j + k) (outside at width j v k (apart-first j v width at value fs t) h)
 
 -- a field is read, where the later ones are apart from it
 pub field-read : (before : List Field) (width at value : ℕ) (behind : List Field) (s : List ℕ) → at + width ≤ length s → value < 256 ^ width → T (apart at width behind)
-    → leAt width (putFields (before ++ (field width at value ∷ behind)) s) at ≡ value
+    → le_at width (put_fields (before ++ (field width at value ∷ behind)) s) at ≡ value
 field-read [] width at value behind s h b t =
-    leAt-ext width (putFields behind (putLe width s at value)) (putLe width s at value) at at (λ k l. fields-other behind (putLe width s at value) at width k t l)
-    ∙ leAt-putLe width s at value h b
-field-read (field w i v ∷ before) width at value behind s h b t = field-read before width at value behind (putLe w s i v) (rw length-putLe h) b t
+    le_at-ext width (put_fields behind (put_le width s at value)) (put_le width s at value) at at (λ k l. fields-other behind (put_le width s at value) at width k t l)
+    ∙ le_at-put_le width s at value h b
+field-read (field w i v ∷ before) width at value behind s h b t = field-read before width at value behind (put_le w s i v) (rw length-put_le h) b t
 
 -- every field lies within the first n bytes
 abbrev pub within : ℕ → List Field → Bool
@@ -57,51 +57,51 @@ within n [] = true
 within n (field width at value ∷ fs) = leb (at + width) n && within n fs
 
 -- a byte behind every field is as it was
-pub fields-behind : (n : ℕ) (fs : List Field) (s : List ℕ) (k : ℕ) → T (within n fs) → n ≤ k → get_or (putFields fs s) k 0 ≡ get_or s k 0
+pub fields-behind : (n : ℕ) (fs : List Field) (s : List ℕ) (k : ℕ) → T (within n fs) → n ≤ k → get_or (put_fields fs s) k 0 ≡ get_or s k 0
 fields-behind n [] s k t h = refl
 fields-behind n (field width at value ∷ fs) s k t h =
-    fields-behind n fs (putLe width s at value) k (and_right (leb (at + width) n) (within n fs) t) h
-    ∙ putLe-other width s at value k (inr (omega (arith, leb→le (at + width) n (and_left (leb (at + width) n) (within n fs) t))))
+    fields-behind n fs (put_le width s at value) k (and_right (leb (at + width) n) (within n fs) t) h
+    ∙ put_le-other width s at value k (inr (omega (arith, leb→le (at + width) n (and_left (leb (at + width) n) (within n fs) t))))
 
 -- a store passes the fields that are apart from it
 store-past : (width at value : ℕ) (fs : List Field) (n : ℕ) (s : List ℕ) → at + width ≤ n → n ≤ length s → T (within n fs) → T (apart at width fs)
-    → putLe width (putFields fs s) at value ≡ putFields fs (putLe width s at value)
+    → put_le width (put_fields fs s) at value ≡ put_fields fs (put_le width s at value)
 store-past width at value [] n s a h i t = refl
 store-past width at value (field w j v ∷ fs) n s a h i t =
-    store-past width at value fs n (putLe w s j v) a (rw length-putLe h) (and_right (leb (j + w) n) (within n fs) i) (apart-rest at width w j v fs t)
-    ∙ ap (putFields fs)
-    (putLe-swap width w s at value j v
+    store-past width at value fs n (put_le w s j v) a (rw length-put_le h) (and_right (leb (j + w) n) (within n fs) i) (apart-rest at width w j v fs t)
+    ∙ ap (put_fields fs)
+    (put_le-swap width w s at value j v
     (⊎_elim inr inl (apart-first at width w j v fs t))
     (omega arith)
     (omega (arith, leb→le (j + w) n (and_left (leb (j + w) n) (within n fs) i))))
 
 -- a field written anew is the table with that field's new value
 pub field-anew : (before : List Field) (width at old new : ℕ) (behind : List Field) (n : ℕ) (s : List ℕ) → at + width ≤ n → n ≤ length s → T (within n behind) → T (apart at width behind)
-    → putLe width (putFields (before ++ (field width at old ∷ behind)) s) at new ≡ putFields (before ++ (field width at new ∷ behind)) s
+    → put_le width (put_fields (before ++ (field width at old ∷ behind)) s) at new ≡ put_fields (before ++ (field width at new ∷ behind)) s
 field-anew [] width at old new behind n s a h i t =
-    store-past width at new behind n (putLe width s at old) a (rw length-putLe h) i t
-    ∙ ap (putFields behind) (putLe-over width s at old new (omega arith))
-field-anew (field w j v ∷ before) width at old new behind n s a h i t = field-anew before width at old new behind n (putLe w s j v) a (rw length-putLe h) i t
+    store-past width at new behind n (put_le width s at old) a (rw length-put_le h) i t
+    ∙ ap (put_fields behind) (put_le-over width s at old new (omega arith))
+field-anew (field w j v ∷ before) width at old new behind n s a h i t = field-anew before width at old new behind n (put_le w s j v) a (rw length-put_le h) i t
 
 pub length-blank : (r : List ℕ) → length (blank r) ≡ length r
 unfolding blank
-length-blank r = length-sets (sets r 0 (replicate headerBytes 0)) 0 magic ∙ length-sets r 0 (replicate headerBytes 0)
+length-blank r = length-sets (sets r 0 (replicate header_bytes 0)) 0 magic ∙ length-sets r 0 (replicate header_bytes 0)
 
 -- between the magic and the header's end a blank header is zero
-pub blank-zero : (r : List ℕ) (k : ℕ) → headerBytes ≤ length r → length magic ≤ k → k < headerBytes → get_or (blank r) k 0 ≡ 0
+pub blank-zero : (r : List ℕ) (k : ℕ) → header_bytes ≤ length r → length magic ≤ k → k < header_bytes → get_or (blank r) k 0 ≡ 0
 unfolding blank
 blank-zero r k h a b =
-    sets-other (sets r 0 (replicate headerBytes 0)) 0 magic k 0 (inr a)
-    ∙ (rw zero-add at (sets-in r 0 (replicate headerBytes 0) k 0 (rw length-replicate b) (omega arith)))
-    ∙ get_or-replicate headerBytes k 0 0 b
+    sets-other (sets r 0 (replicate header_bytes 0)) 0 magic k 0 (inr a)
+    ∙ (rw zero-add at (sets-in r 0 (replicate header_bytes 0) k 0 (rw length-replicate b) (omega arith)))
+    ∙ get_or-replicate header_bytes k 0 0 b
 
-pub blank-magic : (r : List ℕ) (k : ℕ) → headerBytes ≤ length r → k < length magic → get_or (blank r) k 0 ≡ get_or magic k 0
+pub blank-magic : (r : List ℕ) (k : ℕ) → header_bytes ≤ length r → k < length magic → get_or (blank r) k 0 ≡ get_or magic k 0
 unfolding blank
-blank-magic r k h b = rw zero-add at (sets-in (sets r 0 (replicate headerBytes 0)) 0 magic k 0 b (rw length-sets (omega arith)))
+blank-magic r k h b = rw zero-add at (sets-in (sets r 0 (replicate header_bytes 0)) 0 magic k 0 b (rw length-sets (omega arith)))
 
 -- past the header a blank header is what was there
-pub blank-ring : (r : List ℕ) (k : ℕ) → headerBytes ≤ k → get_or (blank r) k 0 ≡ get_or r k 0
+pub blank-ring : (r : List ℕ) (k : ℕ) → header_bytes ≤ k → get_or (blank r) k 0 ≡ get_or r k 0
 unfolding blank
 blank-ring r k h =
-    sets-other (sets r 0 (replicate headerBytes 0)) 0 magic k 0 (inr (omega arith))
-    ∙ sets-other r 0 (replicate headerBytes 0) k 0 (inr (omega (arith, length-replicate {A = ℕ} headerBytes 0)))
+    sets-other (sets r 0 (replicate header_bytes 0)) 0 magic k 0 (inr (omega arith))
+    ∙ sets-other r 0 (replicate header_bytes 0) k 0 (inr (omega (arith, length-replicate {A = ℕ} header_bytes 0)))

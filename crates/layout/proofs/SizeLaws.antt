@@ -14,68 +14,68 @@ use lib.Pow.{pow_mono}
 use Rattle.types.specs.Pick.{pick}
 use Rattle.words.proofs.Sets.{Apart}
 use Rattle.words.proofs.Runs.{and_left, and_right}
-use Rattle.layout.specs.Limits.{leastPower, mostPower, leastSlot, mostSlot, slotStep, headerBytes, slotHeadBytes, powerOk, slotOk, capacity, payloadCapacity, ringBytes, totalBytes}
+use Rattle.layout.specs.Limits.{least_power, most_power, least_slot, most_slot, slot_step, header_bytes, slot_head_bytes, power_ok, slot_ok, capacity, payload_capacity, ring_bytes, total_bytes}
 use Rattle.layout.specs.Slots.{slot_at}
 
-most-by : (power : ℕ) (b : Bool) → leb power mostPower ≡ b → pick b (2 ^ power) 0 ≤ 2 ^ mostPower
-most-by power true e = pow_mono (leb-true power mostPower e)
+most-by : (power : ℕ) (b : Bool) → leb power most_power ≡ b → pick b (2 ^ power) 0 ≤ 2 ^ most_power
+most-by power true e = pow_mono (leb-true power most_power e)
 most-by power false e = omega arith
 
-pub capacity-most : (power : ℕ) → capacity power ≤ capacity mostPower
+pub capacity-most : (power : ℕ) → capacity power ≤ capacity most_power
 unfolding capacity
-capacity-most power = most-by power (leb power mostPower) refl
+capacity-most power = most-by power (leb power most_power) refl
 
 pub capacity-room : (power : ℕ) → capacity power ≤ 2 ^ 30
 unfolding capacity
-capacity-room power = omega (arith, most-by power (leb power mostPower) refl)
+capacity-room power = omega (arith, most-by power (leb power most_power) refl)
 
-pub ring-room : (power slot : ℕ) → ringBytes power slot ≤ 2 ^ 30 * slot
-unfolding ringBytes
+pub ring-room : (power slot : ℕ) → ring_bytes power slot ≤ 2 ^ 30 * slot
+unfolding ring_bytes
 ring-room power slot = mul-le-mul_right slot (capacity-room power)
 
 -- a slot size within the limits
-module _ (slot : ℕ) (ok : slotOk slot ≡ true) where
-  bounds : (leb leastSlot slot && leb slot mostSlot) ≡ true
-  unfolding slotOk
-  bounds = and_left (leb leastSlot slot && leb slot mostSlot) (eqb (slot % slotStep) 0) ok
+module _ (slot : ℕ) (ok : slot_ok slot ≡ true) where
+  bounds : (leb least_slot slot && leb slot most_slot) ≡ true
+  unfolding slot_ok
+  bounds = and_left (leb least_slot slot && leb slot most_slot) (eqb (slot % slot_step) 0) ok
 
-  pub slot-least : leastSlot ≤ slot
-  slot-least = leb-true leastSlot slot (and_left (leb leastSlot slot) (leb slot mostSlot) bounds)
+  pub slot-least : least_slot ≤ slot
+  slot-least = leb-true least_slot slot (and_left (leb least_slot slot) (leb slot most_slot) bounds)
 
-  pub slot-most : slot ≤ mostSlot
-  slot-most = leb-true slot mostSlot (and_right (leb leastSlot slot) (leb slot mostSlot) bounds)
+  pub slot-most : slot ≤ most_slot
+  slot-most = leb-true slot most_slot (and_right (leb least_slot slot) (leb slot most_slot) bounds)
 
-  pub total-most : (power : ℕ) → totalBytes power slot ≤ totalBytes mostPower mostSlot
-  unfolding totalBytes ringBytes
-  total-most power = omega (arith, mul-le-mul_right slot (capacity-most power), mul-le-mul_left (capacity mostPower) slot-most)
+  pub total-most : (power : ℕ) → total_bytes power slot ≤ total_bytes most_power most_slot
+  unfolding total_bytes ring_bytes
+  total-most power = omega (arith, mul-le-mul_right slot (capacity-most power), mul-le-mul_left (capacity most_power) slot-most)
 
   -- a payload lies in its slot, and its length fits its word
-  pub payload-in : (n : ℕ) → n ≤ payloadCapacity slot → slotHeadBytes + n ≤ slot
-  unfolding payloadCapacity
+  pub payload-in : (n : ℕ) → n ≤ payload_capacity slot → slot_head_bytes + n ≤ slot
+  unfolding payload_capacity
   payload-in n h = omega (arith, slot-least)
 
-  pub payload-short : (n : ℕ) → n ≤ payloadCapacity slot → n < 2 ^ 16
+  pub payload-short : (n : ℕ) → n ≤ payload_capacity slot → n < 2 ^ 16
   payload-short n h = omega (arith, payload-in n h, slot-most)
 
 -- a power within the limits
-module _ (power : ℕ) (ok : powerOk power ≡ true) where
-  pub power-least : leastPower ≤ power
-  unfolding powerOk
-  power-least = leb-true leastPower power (and_left (leb leastPower power) (leb power mostPower) ok)
+module _ (power : ℕ) (ok : power_ok power ≡ true) where
+  pub power-least : least_power ≤ power
+  unfolding power_ok
+  power-least = leb-true least_power power (and_left (leb least_power power) (leb power most_power) ok)
 
-  pub power-most : power ≤ mostPower
-  unfolding powerOk
-  power-most = leb-true power mostPower (and_right (leb leastPower power) (leb power mostPower) ok)
+  pub power-most : power ≤ most_power
+  unfolding power_ok
+  power-most = leb-true power most_power (and_right (leb least_power power) (leb power most_power) ok)
 
   pub capacity-is : capacity power ≡ 2 ^ power
   unfolding capacity
-  capacity-is = rw (le-leb power mostPower power-most)
+  capacity-is = rw (le-leb power most_power power-most)
 
   pub capacity-least : 2 ≤ capacity power
   capacity-least = rw capacity-is (pow_mono {i = 1} power-least)
 
   -- the slot of a counter lies behind the header, within the ring
-  pub slot-behind : (slot count : ℕ) → headerBytes ≤ slot_at power slot count
+  pub slot-behind : (slot count : ℕ) → header_bytes ≤ slot_at power slot count
   unfolding slot_at
   slot-behind slot count = omega arith
 
@@ -87,8 +87,8 @@ module _ (power : ℕ) (ok : powerOk power ≡ true) where
   pub place-room : (slot count : ℕ) → count % capacity power * slot ≤ 2 ^ 30 * slot
   place-room slot count = omega (arith, place_in slot count, mul-le-mul_right slot (capacity-room power))
 
-  pub slot-within : (slot count : ℕ) → slot_at power slot count + slot ≤ totalBytes power slot
-  unfolding slot_at totalBytes ringBytes
+  pub slot-within : (slot count : ℕ) → slot_at power slot count + slot ≤ total_bytes power slot
+  unfolding slot_at total_bytes ring_bytes
   slot-within slot count = omega (arith, place_in slot count)
 
 place-before : (slot i j : ℕ) → i < j → i * slot + slot ≤ j * slot
@@ -100,6 +100,6 @@ unfolding slot_at
 slots_apart power slot c d differ = by (dec_lt (c % capacity power) (d % capacity power))
   where
     by : Dec (c % capacity power < d % capacity power)
-        → Apart (headerBytes + d % capacity power * slot) slot (headerBytes + c % capacity power * slot) slot
+        → Apart (header_bytes + d % capacity power * slot) slot (header_bytes + c % capacity power * slot) slot
     by (yes h) = inl (omega (arith, place-before slot (c % capacity power) (d % capacity power) h))
     by (no h) = inr (omega (arith, place-before slot (d % capacity power) (c % capacity power) (omega arith)))

@@ -1,7 +1,7 @@
 -- Attach: its checks in their order, the record that it gives back, and every byte that it leaves.
 use Rattle.std.specs.Prelude.{Bool, true, false, not, ◌&&◌, List, [], ◌∷◌, ℕ, ◌+◌, leb, ltb, eqb, length}
-use Rattle.words.specs.Bytes.{bytesAre}
-use Rattle.words.specs.Le.{leAt, putLe}
+use Rattle.words.specs.Bytes.{bytes_are}
+use Rattle.words.specs.Le.{le_at, put_le}
 use Rattle.types.specs.Pick.{pick}
 use Rattle.types.specs.Answers.{number, Test, test, first_of}
 use Rattle.types.specs.declared.Side.{Side}
@@ -11,57 +11,57 @@ use Rattle.types.specs.declared.Reply.{Reply}
 use Rattle.types.specs.declared.Step.TheVariants.{Rest}
 use Rattle.types.specs.declared.Answer.{Answer}
 use Rattle.types.specs.declared.Answer.TheVariants.{InvalidMagic, UnsupportedVersion, InvalidHeaderSize, InvalidLayout, InvalidCapacity, InvalidSlotSize, WouldBlock, AlreadyAttached, BadCall}
-use Rattle.layout.specs.Limits.{headerBytes, slotOk, powerOk, spinsOk, ringBytes}
-use Rattle.layout.specs.Flags.{initialised, worth, notFullOn, reservedFrom, bitOn, setBit, attachMark}
-use Rattle.layout.specs.Header.{magic, majorAt, minorAt, headerSizeAt, totalSizeAt, ringOffsetAt, ringBytesAt, arenaOffsetAt, arenaBytesAt, powerAt, slotSizeAt, flagsAt, counterAt, reserved, allZero}
+use Rattle.layout.specs.Limits.{header_bytes, slot_ok, power_ok, spins_ok, ring_bytes}
+use Rattle.layout.specs.Flags.{initialised, worth, not_full_on, reserved_from, bit_on, set_bit, attach_mark}
+use Rattle.layout.specs.Header.{magic, major_at, minor_at, header_size_at, total_size_at, ring_offset_at, ring_bytes_at, arena_offset_at, arena_bytes_at, power_at, slot_size_at, flags_at, counter_at, reserved, all_zero}
 
-unfoldable pub magicOk : List ℕ → Bool
-magicOk r = bytesAre r 0 magic
+unfoldable pub magic_ok : List ℕ → Bool
+magic_ok r = bytes_are r 0 magic
 
-unfoldable pub versionOk : List ℕ → Bool
-versionOk r = eqb (leAt 2 r majorAt) 0 && eqb (leAt 2 r minorAt) 1
+unfoldable pub version_ok : List ℕ → Bool
+version_ok r = eqb (le_at 2 r major_at) 0 && eqb (le_at 2 r minor_at) 1
 
 -- total size, ring offset, arena words, and the total against the ring's bytes, which cannot wrap here
-unfoldable pub sizesOk : List ℕ → Bool
-sizesOk r =
-    eqb (leAt 8 r totalSizeAt) (length r)
-    && (eqb (leAt 8 r ringOffsetAt) headerBytes
-    && (eqb (leAt 8 r arenaOffsetAt) 0
-    && (eqb (leAt 8 r arenaBytesAt) 0 && eqb (leAt 8 r totalSizeAt) (headerBytes + leAt 8 r ringBytesAt))))
+unfoldable pub sizes_ok : List ℕ → Bool
+sizes_ok r =
+    eqb (le_at 8 r total_size_at) (length r)
+    && (eqb (le_at 8 r ring_offset_at) header_bytes
+    && (eqb (le_at 8 r arena_offset_at) 0
+    && (eqb (le_at 8 r arena_bytes_at) 0 && eqb (le_at 8 r total_size_at) (header_bytes + le_at 8 r ring_bytes_at))))
 
 -- reserved flags, bit 0, the own attach bit
-unfoldable pub flagChecks : ℕ → Side → List Test
-flagChecks flags side =
-    test (ltb flags reservedFrom) InvalidLayout
-    ∷ test (bitOn initialised flags) WouldBlock
-    ∷ test (not (bitOn (worth (attachMark side)) flags)) AlreadyAttached
+unfoldable pub flag_checks : ℕ → Side → List Test
+flag_checks flags side =
+    test (ltb flags reserved_from) InvalidLayout
+    ∷ test (bit_on initialised flags) WouldBlock
+    ∷ test (not (bit_on (worth (attach_mark side)) flags)) AlreadyAttached
     ∷ []
 
 -- slot size, power, ring bytes, reserved bytes, flags
-unfoldable pub ringChecks : List ℕ → Side → List Test
-ringChecks r side =
-    test (slotOk (leAt 4 r slotSizeAt)) InvalidSlotSize
-    ∷ test (powerOk (leAt 1 r powerAt)) InvalidCapacity
-    ∷ test (eqb (leAt 8 r ringBytesAt) (ringBytes (leAt 1 r powerAt) (leAt 4 r slotSizeAt))) InvalidLayout
-    ∷ test (allZero r reserved) InvalidLayout
-    ∷ flagChecks (leAt 4 r flagsAt) side
+unfoldable pub ring_checks : List ℕ → Side → List Test
+ring_checks r side =
+    test (slot_ok (le_at 4 r slot_size_at)) InvalidSlotSize
+    ∷ test (power_ok (le_at 1 r power_at)) InvalidCapacity
+    ∷ test (eqb (le_at 8 r ring_bytes_at) (ring_bytes (le_at 1 r power_at) (le_at 4 r slot_size_at))) InvalidLayout
+    ∷ test (all_zero r reserved) InvalidLayout
+    ∷ flag_checks (le_at 4 r flags_at) side
 
 -- the region's, in their order
-unfoldable pub regionChecks : List ℕ → Side → List Test
-regionChecks r side =
-    test (leb headerBytes (length r)) InvalidLayout
-    ∷ test (magicOk r) InvalidMagic
-    ∷ test (versionOk r) UnsupportedVersion
-    ∷ test (eqb (leAt 4 r headerSizeAt) headerBytes) InvalidHeaderSize
-    ∷ test (sizesOk r) InvalidLayout
-    ∷ ringChecks r side
+unfoldable pub region_checks : List ℕ → Side → List Test
+region_checks r side =
+    test (leb header_bytes (length r)) InvalidLayout
+    ∷ test (magic_ok r) InvalidMagic
+    ∷ test (version_ok r) UnsupportedVersion
+    ∷ test (eqb (le_at 4 r header_size_at) header_bytes) InvalidHeaderSize
+    ∷ test (sizes_ok r) InvalidLayout
+    ∷ ring_checks r side
 
 -- the spin count before them all
-unfoldable pub attachChecks : List ℕ → Side → (spins : ℕ) → List Test
-attachChecks r side spins = test (spinsOk spins) BadCall ∷ regionChecks r side
+unfoldable pub attach_checks : List ℕ → Side → (spins : ℕ) → List Test
+attach_checks r side spins = test (spins_ok spins) BadCall ∷ region_checks r side
 
-unfoldable pub attachAnswer : List ℕ → Side → (spins : ℕ) → Answer
-attachAnswer r side spins = first_of (attachChecks r side spins)
+unfoldable pub attach_answer : List ℕ → Side → (spins : ℕ) → Answer
+attach_answer r side spins = first_of (attach_checks r side spins)
 
 -- a party at rest that has named nothing yet
 abbrev pub fresh : Own → (counter : ℕ) → Party
@@ -78,24 +78,24 @@ attached r side spins =
     (record {
       side = side;
       attached = true;
-      power = leAt 1 r powerAt;
-      slot = leAt 4 r slotSizeAt;
-      notfull = bitOn notFullOn (leAt 4 r flagsAt);
+      power = le_at 1 r power_at;
+      slot = le_at 4 r slot_size_at;
+      notfull = bit_on not_full_on (le_at 4 r flags_at);
       spins = spins;
     })
-    (leAt 8 r (counterAt side))
+    (le_at 8 r (counter_at side))
 
 -- a refusal gives back the record of a party not attached
-unfoldable pub attachReply : List ℕ → Side → (spins : ℕ) → Reply
-attachReply r side spins =
+unfoldable pub attach_reply : List ℕ → Side → (spins : ℕ) → Reply
+attach_reply r side spins =
     record {
-      party = pick (eqb (number (attachAnswer r side spins)) 0) (attached r side spins) (unattached side);
-      answer = attachAnswer r side spins;
+      party = pick (eqb (number (attach_answer r side spins)) 0) (attached r side spins) (unattached side);
+      answer = attach_answer r side spins;
     }
 
 -- and changes no byte; success sets the one bit
-unfoldable pub attachLeaves : List ℕ → Side → (spins : ℕ) → List ℕ
-attachLeaves r side spins =
-    pick (eqb (number (attachAnswer r side spins)) 0)
-    (putLe 4 r flagsAt (setBit (worth (attachMark side)) (leAt 4 r flagsAt)))
+unfoldable pub attach_leaves : List ℕ → Side → (spins : ℕ) → List ℕ
+attach_leaves r side spins =
+    pick (eqb (number (attach_answer r side spins)) 0)
+    (put_le 4 r flags_at (set_bit (worth (attach_mark side)) (le_at 4 r flags_at)))
     r

@@ -4,29 +4,29 @@ use Rattle.types.specs.Pick.{pick}
 use Rattle.types.specs.Answers.{number, Test, test, first_of}
 use Rattle.types.specs.declared.Answer.{Answer}
 use Rattle.types.specs.declared.Answer.TheVariants.{InvalidLayout, InvalidCapacity, InvalidSlotSize}
-use Rattle.layout.specs.Limits.{slotOk, powerOk, ringBytes, totalBytes}
-use Rattle.layout.specs.Flags.{initialised, notFullOn}
+use Rattle.layout.specs.Limits.{slot_ok, power_ok, ring_bytes, total_bytes}
+use Rattle.layout.specs.Flags.{initialised, not_full_on}
 use Rattle.layout.specs.Header.{headed}
 
 -- in this order: 6, 5, 4
-abbrev pub createChecks : (bytes power slot : ℕ) → List Test
-createChecks bytes power slot =
-    test (slotOk slot) InvalidSlotSize
-    ∷ test (powerOk power) InvalidCapacity
-    ∷ test (eqb bytes (totalBytes power slot)) InvalidLayout
+abbrev pub create_checks : (bytes power slot : ℕ) → List Test
+create_checks bytes power slot =
+    test (slot_ok slot) InvalidSlotSize
+    ∷ test (power_ok power) InvalidCapacity
+    ∷ test (eqb bytes (total_bytes power slot)) InvalidLayout
     ∷ []
 
-unfoldable pub createAnswer : (bytes power slot : ℕ) → Answer
-createAnswer bytes power slot = first_of (createChecks bytes power slot)
+unfoldable pub create_answer : (bytes power slot : ℕ) → Answer
+create_answer bytes power slot = first_of (create_checks bytes power slot)
 
-abbrev pub firstFlags : Bool → ℕ
-firstFlags notfull = pick notfull (initialised + notFullOn) initialised
+abbrev pub first_flags : Bool → ℕ
+first_flags notfull = pick notfull (initialised + not_full_on) initialised
 
 -- the region with a fresh header
 unfoldable pub created : List ℕ → (power slot : ℕ) → Bool → (start : ℕ) → List ℕ
-created r power slot notfull start = headed r (ringBytes power slot) power slot (firstFlags notfull) start
+created r power slot notfull start = headed r (ring_bytes power slot) power slot (first_flags notfull) start
 
 -- a refusal changes no byte
-unfoldable pub createLeaves : List ℕ → (power slot : ℕ) → Bool → (start : ℕ) → List ℕ
-createLeaves r power slot notfull start =
-    pick (eqb (number (createAnswer (length r) power slot)) 0) (created r power slot notfull start) r
+unfoldable pub create_leaves : List ℕ → (power slot : ℕ) → Bool → (start : ℕ) → List ℕ
+create_leaves r power slot notfull start =
+    pick (eqb (number (create_answer (length r) power slot)) 0) (created r power slot notfull start) r

@@ -19,25 +19,25 @@ worth RecorderClosed = 0x10
 worth Shutdown = 0x20
 
 -- bit 6
-abbrev pub notFullOn : ℕ
-notFullOn = 0x40
+abbrev pub not_full_on : ℕ
+not_full_on = 0x40
 
 -- the bits from 7 on are zero
-abbrev pub reservedFrom : ℕ
-reservedFrom = 0x80
+abbrev pub reserved_from : ℕ
+reserved_from = 0x80
 
 -- the bit of that worth is set
-abbrev pub bitOn : ℕ → ℕ → Bool
-bitOn bit flags = eqb (flags / bit % 2) 1
+abbrev pub bit_on : ℕ → ℕ → Bool
+bit_on bit flags = eqb (flags / bit % 2) 1
 
 -- the flags with that bit set
-abbrev pub setBit : ℕ → ℕ → ℕ
-setBit bit flags = pick (bitOn bit flags) flags (flags + bit)
+abbrev pub set_bit : ℕ → ℕ → ℕ
+set_bit bit flags = pick (bit_on bit flags) flags (flags + bit)
 
-abbrev pub attachMark : Side → Mark
-attachMark Sender = SenderAttached
-attachMark Recorder = RecorderAttached
+abbrev pub attach_mark : Side → Mark
+attach_mark Sender = SenderAttached
+attach_mark Recorder = RecorderAttached
 
-abbrev pub closeMark : Side → Mark
-closeMark Sender = SenderClosed
-closeMark Recorder = RecorderClosed
+abbrev pub close_mark : Side → Mark
+close_mark Sender = SenderClosed
+close_mark Recorder = RecorderClosed

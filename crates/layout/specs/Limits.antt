@@ -2,51 +2,51 @@
 use Rattle.std.specs.Prelude.{Bool, ◌&&◌, ℕ, ◌+◌, ◌-◌, ◌*◌, ◌%◌, ◌^◌, leb, eqb}
 use Rattle.types.specs.Pick.{pick}
 
-abbrev pub leastPower : ℕ
-leastPower = 1
+abbrev pub least_power : ℕ
+least_power = 1
 
-abbrev pub mostPower : ℕ
-mostPower = 30
+abbrev pub most_power : ℕ
+most_power = 30
 
-abbrev pub leastSlot : ℕ
-leastSlot = 8
+abbrev pub least_slot : ℕ
+least_slot = 8
 
-abbrev pub mostSlot : ℕ
-mostSlot = 65536
+abbrev pub most_slot : ℕ
+most_slot = 65536
 
 -- a party spins at most so often before it sleeps
-abbrev pub mostSpins : ℕ
-mostSpins = 1000
+abbrev pub most_spins : ℕ
+most_spins = 1000
 
 -- slot sizes go in steps of 8
-abbrev pub slotStep : ℕ
-slotStep = 8
+abbrev pub slot_step : ℕ
+slot_step = 8
 
-abbrev pub headerBytes : ℕ
-headerBytes = 384
+abbrev pub header_bytes : ℕ
+header_bytes = 384
 
 -- a slot begins with its own header
-abbrev pub slotHeadBytes : ℕ
-slotHeadBytes = 8
+abbrev pub slot_head_bytes : ℕ
+slot_head_bytes = 8
 
-unfoldable pub powerOk : ℕ → Bool
-powerOk power = leb leastPower power && leb power mostPower
+unfoldable pub power_ok : ℕ → Bool
+power_ok power = leb least_power power && leb power most_power
 
-unfoldable pub slotOk : ℕ → Bool
-slotOk slot = leb leastSlot slot && leb slot mostSlot && eqb (slot % slotStep) 0
+unfoldable pub slot_ok : ℕ → Bool
+slot_ok slot = leb least_slot slot && leb slot most_slot && eqb (slot % slot_step) 0
 
-unfoldable pub spinsOk : ℕ → Bool
-spinsOk spins = leb spins mostSpins
+unfoldable pub spins_ok : ℕ → Bool
+spins_ok spins = leb spins most_spins
 
 -- 2^power; a power above the limit has no ring, so no slots
 unfoldable pub capacity : ℕ → ℕ
-capacity power = pick (leb power mostPower) (2 ^ power) 0
+capacity power = pick (leb power most_power) (2 ^ power) 0
 
-unfoldable pub payloadCapacity : ℕ → ℕ
-payloadCapacity slot = slot - slotHeadBytes
+unfoldable pub payload_capacity : ℕ → ℕ
+payload_capacity slot = slot - slot_head_bytes
 
-unfoldable pub ringBytes : ℕ → ℕ → ℕ
-ringBytes power slot = capacity power * slot
+unfoldable pub ring_bytes : ℕ → ℕ → ℕ
+ring_bytes power slot = capacity power * slot
 
-unfoldable pub totalBytes : ℕ → ℕ → ℕ
-totalBytes power slot = headerBytes + ringBytes power slot
+unfoldable pub total_bytes : ℕ → ℕ → ℕ
+total_bytes power slot = header_bytes + ring_bytes power slot

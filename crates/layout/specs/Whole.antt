@@ -4,9 +4,9 @@ use Rattle.types.specs.Pick.{pick}
 use Rattle.types.specs.Answers.{Test, test, first_of}
 use Rattle.types.specs.declared.Side.{Side}
 use Rattle.types.specs.declared.Answer.TheVariants.{InvalidLayout, InvalidCapacity, InvalidSlotSize}
-use Rattle.layout.specs.Limits.{headerBytes, slotOk, powerOk, spinsOk, ringBytes}
+use Rattle.layout.specs.Limits.{header_bytes, slot_ok, power_ok, spins_ok, ring_bytes}
 use Rattle.layout.specs.Header.{magic, Field, field, Run, run, fields, reserved, headed}
-use Rattle.layout.specs.Attach.{flagChecks, attachAnswer}
+use Rattle.layout.specs.Attach.{flag_checks, attach_answer}
 
 abbrev pub run_of : Field → Run
 run_of (field width at value) = run width at
@@ -22,25 +22,25 @@ everything = run (length magic) 0 ∷ (map run_of (fields 0 0 0 0 0) ++ reserved
 
 -- each byte of the header lies in one of them, and in no two
 abbrev pub Covered : Type 0
-Covered = (k : ℕ) → k < headerBytes → holders k everything ≡ 1
+Covered = (k : ℕ) → k < header_bytes → holders k everything ≡ 1
 
 -- every value fits its field
 pub record Fitting (r : List ℕ) (ring power slot flags start : ℕ) : Type 0 where
-  pub long : length r ≡ headerBytes + ring
-  pub total-fits : headerBytes + ring < 256 ^ 8
+  pub long : length r ≡ header_bytes + ring
+  pub total-fits : header_bytes + ring < 256 ^ 8
   pub power-fits : power < 256 ^ 1
   pub slot-fits : slot < 256 ^ 4
   pub flags-fits : flags < 256 ^ 4
   pub start_fits : start < 256 ^ 8
 
 -- what is left to test of a whole header
-abbrev pub sizeChecks : (ring power slot flags : ℕ) → Side → List Test
-sizeChecks ring power slot flags side =
-    test (slotOk slot) InvalidSlotSize
-    ∷ test (powerOk power) InvalidCapacity
-    ∷ test (eqb ring (ringBytes power slot)) InvalidLayout
-    ∷ flagChecks flags side
+abbrev pub size_checks : (ring power slot flags : ℕ) → Side → List Test
+size_checks ring power slot flags side =
+    test (slot_ok slot) InvalidSlotSize
+    ∷ test (power_ok power) InvalidCapacity
+    ∷ test (eqb ring (ring_bytes power slot)) InvalidLayout
+    ∷ flag_checks flags side
 
 abbrev pub AttachHeaded : Type 0
-AttachHeaded = (r : List ℕ) (ring power slot flags start : ℕ) → Fitting r ring power slot flags start → (side : Side) (spins : ℕ) → spinsOk spins ≡ true
-    → attachAnswer (headed r ring power slot flags start) side spins ≡ first_of (sizeChecks ring power slot flags side)
+AttachHeaded = (r : List ℕ) (ring power slot flags start : ℕ) → Fitting r ring power slot flags start → (side : Side) (spins : ℕ) → spins_ok spins ≡ true
+    → attach_answer (headed r ring power slot flags start) side spins ≡ first_of (size_checks ring power slot flags side)

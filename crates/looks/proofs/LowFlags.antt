@@ -4,7 +4,7 @@ use Prim.Native.Nat.{ℕ, ◌/◌, ◌%◌, ◌^◌}
 use native.Mathlib.Omega.{arith}
 use Rattle.types.specs.declared.Mark.{Mark}
 use Rattle.types.specs.declared.Mark.TheVariants.{SenderAttached, RecorderAttached, SenderClosed, RecorderClosed, Shutdown}
-use Rattle.layout.specs.Flags.{worth, bitOn}
+use Rattle.layout.specs.Flags.{worth, bit_on}
 
 low_bit : (mark : Mark) (flags : ℕ) → flags % 2 ^ 32 / worth mark % 2 ≡ flags / worth mark % 2
 low_bit SenderAttached flags = omega arith
@@ -13,5 +13,5 @@ low_bit SenderClosed flags = omega arith
 low_bit RecorderClosed flags = omega arith
 low_bit Shutdown flags = omega arith
 
-pub low-mark : (mark : Mark) (flags : ℕ) → bitOn (worth mark) (flags % 2 ^ 32) ≡ bitOn (worth mark) flags
+pub low-mark : (mark : Mark) (flags : ℕ) → bit_on (worth mark) (flags % 2 ^ 32) ≡ bit_on (worth mark) flags
 low-mark mark flags = rw (low_bit mark flags)

@@ -1,13 +1,13 @@
 // What a value that a turn loaded says to a party.
 ghost use Rattle.std.specs.Prelude.{◌≡◌};
-ghost use Rattle.rules.specs.Looks.{doorOf, headBad, fitOf, napOf};
+ghost use Rattle.rules.specs.Looks.{door_of, head_bad, fit_of, nap_of};
 
 use header::Header;
 use types::{Door, Fit, Mark, Nap, Side, SlotHead};
 
 // B1, W1, B4 and W4. A turn hands the flags on as 64 bits, of which they are the lowest 32.
 pub fn door_of(side: Side, flags: u64) -> Door
-    ensures { result ≡ doorOf side flags }
+    ensures { result ≡ door_of side flags }
 {
     let word = (flags % 0x1_0000_0000) as u32;
     let them = sides::other(side);
@@ -22,7 +22,7 @@ pub fn door_of(side: Side, flags: u64) -> Door
 
 // C2's grounds of 8. Slot flag 0 may be set.
 fn is_bad(head: SlotHead, most: u32) -> bool
-    ensures { result ≡ headBad head most }
+    ensures { result ≡ head_bad head most }
 {
     let long = most < (head.length as u32);
     let flagged = 0 < head.flags / 2;
@@ -38,7 +38,7 @@ fn is_bad(head: SlotHead, most: u32) -> bool
 
 // C2: 8 before 15.
 pub fn fit_of(head: SlotHead, most: u32, buffer: u32) -> Fit
-    ensures { result ≡ fitOf head most buffer }
+    ensures { result ≡ fit_of head most buffer }
 {
     let bad = is_bad(head, most);
     let small = buffer < (head.length as u32);
@@ -64,7 +64,7 @@ impl Error {
 
 // B5 and W5: the announced error, and whether the bell still reads the epoch.
 pub fn nap_of(error: u16, same: bool) -> Nap
-    ensures { result ≡ napOf error same }
+    ensures { result ≡ nap_of error same }
 {
     let fine = error == Error::NONE;
     let interrupted = error == Error::INTERRUPTED;

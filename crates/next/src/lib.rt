@@ -1,6 +1,6 @@
 // The one shared access of a party's next turn, by its record alone. The region is not touched.
 ghost use Rattle.std.specs.Prelude.{◌≡◌};
-ghost use Rattle.rules.specs.Next.{slotAccess, next_at, nextSpec};
+ghost use Rattle.rules.specs.Next.{slot_access, next_at, next_spec};
 
 use header::Header;
 use types::{Access, Bell, Mark, Party, Side, Step};
@@ -12,7 +12,7 @@ pub const ALL: u32 = 2_147_483_647;
 
 // A push writes its slot, a pop reads it.
 pub fn slot_access(side: Side, counter: u64) -> Access
-    ensures { result ≡ slotAccess side counter }
+    ensures { result ≡ slot_access side counter }
 {
     match side {
         Side::Sender => Access::WriteSlot(counter),
@@ -56,7 +56,7 @@ pub fn next_at(step: Step, side: Side, counter: u64) -> Access
 }
 
 pub fn next(p: Party) -> Access
-    ensures { result ≡ nextSpec p }
+    ensures { result ≡ next_spec p }
 {
     let own = p.own;
     let side = own.side;

@@ -1,10 +1,10 @@
 // A whole script, played as it comes: in pieces, cut anywhere.
 ghost use Rattle.std.specs.Prelude.{◌≡◌, ◌++◌, ◌+◌, ◌*◌, ◌≤◌, ◌<◌, length, take, drop};
 ghost use Rattle.std.proofs.lemmas.List.Edits.{sets};
-ghost use Rattle.records.specs.Records.{recordBytes, payloadBytes};
-ghost use Rattle.opening.specs.Night.{nightOf};
+ghost use Rattle.records.specs.Records.{record_bytes, payload_bytes};
+ghost use Rattle.opening.specs.Night.{night_of};
 ghost use Rattle.script.specs.Script.{nights, reports};
-ghost use Rattle.night.specs.Pieces.{blockBytes, wholeIn, left_of};
+ghost use Rattle.night.specs.Pieces.{block_bytes, whole_in, left_of};
 
 use records::Record;
 use types::Bench;
@@ -18,9 +18,9 @@ pub fn play_block(
     script: &[u8],
     out: &mut [u8],
 ) -> Bench
-    requires { (length payload.old ≡ payloadBytes) × (length buffer.old ≡ payloadBytes) × (length script.now ≤ length out.old) }
-    ensures leaves { nightOf region.new result payload.new buffer.new ≡ nights (wholeIn script.now) (nightOf region.old b payload.old buffer.old) script.now }
-    ensures tells { out.new ≡ reports (wholeIn script.now) (nightOf region.old b payload.old buffer.old) script.now ++ drop (recordBytes * wholeIn script.now) out.old }
+    requires { (length payload.old ≡ payload_bytes) × (length buffer.old ≡ payload_bytes) × (length script.now ≤ length out.old) }
+    ensures leaves { night_of region.new result payload.new buffer.new ≡ nights (whole_in script.now) (night_of region.old b payload.old buffer.old) script.now }
+    ensures tells { out.new ≡ reports (whole_in script.now) (night_of region.old b payload.old buffer.old) script.now ++ drop (record_bytes * whole_in script.now) out.old }
 {
     let n = script.len() / Record::BYTES;
     let mut bench = b;
@@ -65,11 +65,11 @@ fn feed_slices(
     have: usize,
     out: &mut [u8],
 ) -> Fed
-    requires { (length payload.old ≡ payloadBytes) × (length buffer.old ≡ payloadBytes) × (have ≤ length input.old) × (have ≤ length out.old) }
-    ensures leaves { nightOf region.new result.bench payload.new buffer.new ≡ nights (wholeIn (take have input.old)) (nightOf region.old b payload.old buffer.old) (take have input.old) }
-    ensures tells { out.new ≡ reports (wholeIn (take have input.old)) (nightOf region.old b payload.old buffer.old) (take have input.old) ++ drop (recordBytes * wholeIn (take have input.old)) out.old }
+    requires { (length payload.old ≡ payload_bytes) × (length buffer.old ≡ payload_bytes) × (have ≤ length input.old) × (have ≤ length out.old) }
+    ensures leaves { night_of region.new result.bench payload.new buffer.new ≡ nights (whole_in (take have input.old)) (night_of region.old b payload.old buffer.old) (take have input.old) }
+    ensures tells { out.new ≡ reports (whole_in (take have input.old)) (night_of region.old b payload.old buffer.old) (take have input.old) ++ drop (record_bytes * whole_in (take have input.old)) out.old }
     ensures waits { input.new ≡ sets input.old 0 (left_of (take have input.old)) }
-    ensures counts { (result.told ≡ recordBytes * wholeIn (take have input.old)) × (result.left ≡ length (left_of (take have input.old))) }
+    ensures counts { (result.told ≡ record_bytes * whole_in (take have input.old)) × (result.left ≡ length (left_of (take have input.old))) }
 {
     let whole = have / Record::BYTES * Record::BYTES;
     let bench = play_block(region, b, payload, buffer, &input[..have], out);
@@ -92,11 +92,11 @@ pub fn feed(
     have: usize,
     out: &mut [u8; 65536],
 ) -> Fed
-    ensures leaves { nightOf region.new result.bench payload.new buffer.new ≡ nights (wholeIn (take have input.old)) (nightOf region.old b payload.old buffer.old) (take have input.old) }
-    ensures tells { out.new ≡ reports (wholeIn (take have input.old)) (nightOf region.old b payload.old buffer.old) (take have input.old) ++ drop (recordBytes * wholeIn (take have input.old)) out.old }
+    ensures leaves { night_of region.new result.bench payload.new buffer.new ≡ nights (whole_in (take have input.old)) (night_of region.old b payload.old buffer.old) (take have input.old) }
+    ensures tells { out.new ≡ reports (whole_in (take have input.old)) (night_of region.old b payload.old buffer.old) (take have input.old) ++ drop (record_bytes * whole_in (take have input.old)) out.old }
     ensures waits { input.new ≡ sets input.old 0 (left_of (take have input.old)) }
-    ensures counts { (result.told ≡ recordBytes * wholeIn (take have input.old)) × (result.left ≡ length (left_of (take have input.old))) }
-    ensures within { (result.told ≤ blockBytes) × (result.left < recordBytes) × (length input.new ≡ blockBytes) × (length out.new ≡ blockBytes) }
+    ensures counts { (result.told ≡ record_bytes * whole_in (take have input.old)) × (result.left ≡ length (left_of (take have input.old))) }
+    ensures within { (result.told ≤ block_bytes) × (result.left < record_bytes) × (length input.new ≡ block_bytes) × (length out.new ≡ block_bytes) }
 {
     let n = reports::least(have, Block::BYTES);
     feed_slices(region, b, payload, buffer, input, n, out)

@@ -2,10 +2,10 @@
 use Rattle.std.specs.Prelude.{true, List, ℕ, replicate}
 use Rattle.types.specs.declared.Side.TheVariants.{Sender, Recorder}
 use Rattle.types.specs.declared.Bench.{Bench}
-use Rattle.layout.specs.Limits.{totalBytes}
+use Rattle.layout.specs.Limits.{total_bytes}
 use Rattle.layout.specs.Create.{created}
-use Rattle.layout.specs.Attach.{attachReply, attachLeaves}
-use Rattle.records.specs.Records.{payloadBytes}
+use Rattle.layout.specs.Attach.{attach_reply, attach_leaves}
+use Rattle.records.specs.Records.{payload_bytes}
 
 -- what the program keeps between two records: the region, both parties, the running push's payload and the pop's buffer,
 -- 24 bytes each
@@ -15,8 +15,8 @@ pub record Night : Type 0 where
   pub payload : List ℕ
   pub buffer : List ℕ
 
-abbrev pub nightOf : (region : List ℕ) → Bench → (payload buffer : List ℕ) → Night
-nightOf region b payload buffer = record { region = region; bench = b; payload = payload; buffer = buffer }
+abbrev pub night_of : (region : List ℕ) → Bench → (payload buffer : List ℕ) → Night
+night_of region b payload buffer = record { region = region; bench = b; payload = payload; buffer = buffer }
 
 -- power 2, slot 32, not-full on, both attached, neither of which spins
 abbrev pub power : ℕ
@@ -25,17 +25,17 @@ power = 2
 abbrev pub slot : ℕ
 slot = 32
 
-abbrev pub madeRegion : List ℕ
-madeRegion = created (replicate (totalBytes power slot) 0) power slot true 0
+abbrev pub made_region : List ℕ
+made_region = created (replicate (total_bytes power slot) 0) power slot true 0
 
-abbrev pub senderIn : List ℕ
-senderIn = attachLeaves madeRegion Sender 0
+abbrev pub sender_in : List ℕ
+sender_in = attach_leaves made_region Sender 0
 
 unfoldable pub start : Night
 start =
     record {
-      region = attachLeaves senderIn Recorder 0;
-      bench = record { sender = (attachReply madeRegion Sender 0).party; recorder = (attachReply senderIn Recorder 0).party };
-      payload = replicate payloadBytes 0;
-      buffer = replicate payloadBytes 0;
+      region = attach_leaves sender_in Recorder 0;
+      bench = record { sender = (attach_reply made_region Sender 0).party; recorder = (attach_reply sender_in Recorder 0).party };
+      payload = replicate payload_bytes 0;
+      buffer = replicate payload_bytes 0;
     }

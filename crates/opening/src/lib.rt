@@ -1,6 +1,6 @@
 // How a script begins: on a fresh region, with both parties attached, neither of which spins.
 ghost use Rattle.std.specs.Prelude.{◌≡◌, length, replicate};
-ghost use Rattle.opening.specs.Night.{nightOf, start};
+ghost use Rattle.opening.specs.Night.{night_of, start};
 
 use types::{Bench, Side};
 
@@ -23,7 +23,7 @@ fn wipe(s: &mut [u8])
 
 // A fresh night: the region created, both parties attached, nothing pushed and nothing popped.
 pub fn start(region: &mut [u8; 512], payload: &mut [u8; 24], buffer: &mut [u8; 24]) -> Bench
-    ensures { nightOf region.new result payload.new buffer.new ≡ start }
+    ensures { night_of region.new result payload.new buffer.new ≡ start }
 {
     wipe(payload);
     wipe(buffer);

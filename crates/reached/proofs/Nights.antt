@@ -12,29 +12,29 @@ use Rattle.types.specs.declared.Side.{Side}
 use Rattle.types.specs.declared.Side.TheVariants.{Sender, Recorder}
 use Rattle.types.specs.declared.Step.TheVariants.{Rest}
 use Rattle.types.specs.declared.Event.TheVariants.{Turn, Failing, Spurious, TimeOut, Push, Pop, Close, Shutdown}
-use Rattle.layout.specs.Attach.{magicOk, versionOk, sizesOk, flagChecks, ringChecks, regionChecks, attachChecks, attachAnswer, attachReply, attachLeaves}
-use Rattle.layout.specs.Create.{createAnswer, created}
+use Rattle.layout.specs.Attach.{magic_ok, version_ok, sizes_ok, flag_checks, ring_checks, region_checks, attach_checks, attach_answer, attach_reply, attach_leaves}
+use Rattle.layout.specs.Create.{create_answer, created}
 use Rattle.layout.specs.Header.{blank, headed}
-use Rattle.layout.specs.Limits.{powerOk, slotOk, spinsOk, capacity, payloadCapacity, ringBytes, totalBytes}
-use Rattle.layout.specs.Slots.{slot_at, head_of, slotBytes, slotPut, bufferPut}
-use Rattle.rules.specs.Access.{value_of, leavesOf, bufferOf}
-use Rattle.rules.specs.Bench.{wakened, settled, turned, played, playedLeaves}
-use Rattle.rules.specs.Calls.{isResting, sound, ready, pushSpec, popSpec}
-use Rattle.rules.specs.Looks.{roomOf, wasBlocked, doorOf, fitOf, napOf}
-use Rattle.rules.specs.Next.{nextSpec}
+use Rattle.layout.specs.Limits.{power_ok, slot_ok, spins_ok, capacity, payload_capacity, ring_bytes, total_bytes}
+use Rattle.layout.specs.Slots.{slot_at, head_of, slot_bytes, slot_put, buffer_put}
+use Rattle.rules.specs.Access.{value_of, leaves_of, buffer_of}
+use Rattle.rules.specs.Bench.{wakened, settled, turned, played, played_leaves}
+use Rattle.rules.specs.Calls.{is_resting, sound, ready, push_spec, pop_spec}
+use Rattle.rules.specs.Looks.{room_of, was_blocked, door_of, fit_of, nap_of}
+use Rattle.rules.specs.Next.{next_spec}
 use Rattle.rules.specs.Run.{happens, run}
-use Rattle.rules.specs.Steps.{lookMove, copyMove, publishMove, checkMove, wakeMove, gateMove, toSpin, spinMove, againMove, waitMove, closeMove, shutMove}
-use Rattle.rules.specs.Take.{stanceOf, move_of, takeSpec}
-use Rattle.rules.specs.Turn.{goes, actSpec, actLeaves, actBuffer, turnSpec, turnLeaves}
-use Rattle.words.specs.Bytes.{zeros, bytesAre}
-use Rattle.words.specs.Le.{leAt, le_bytes, putLe}
+use Rattle.rules.specs.Steps.{look_move, copy_move, publish_move, check_move, wake_move, gate_move, to_spin, spin_move, again_move, wait_move, close_move, shut_move}
+use Rattle.rules.specs.Take.{stance_of, move_of, take_spec}
+use Rattle.rules.specs.Turn.{goes, act_spec, act_leaves, act_buffer, turn_spec, turn_leaves}
+use Rattle.words.specs.Bytes.{zeros, bytes_are}
+use Rattle.words.specs.Le.{le_at, le_bytes, put_le}
 use Rattle.words.specs.Wrap.{plus, minus}
 use Rattle.words.proofs.Runs.{and_left, and_right}
-use Rattle.rules.specs.Run.{partyIn, World, Happening, attaches, plays, opened}
+use Rattle.rules.specs.Run.{party_in, World, Happening, attaches, plays, opened}
 use Rattle.rules.specs.Premises.{Typed, AllTyped, AllFair}
-use Rattle.rules.specs.Stretch.{calling, inCall}
+use Rattle.rules.specs.Stretch.{calling, in_call}
 use Rattle.rules.specs.Claims.{waiting}
-use Rattle.rules.specs.Both.{doneBy, turnsBy, WillingAmid, TakesPart, Round, Rounds, playedOut, NightTight}
+use Rattle.rules.specs.Both.{done_by, turns_by, WillingAmid, TakesPart, Round, Rounds, played_out, NightTight}
 use Rattle.reached.proofs.Reaches.{start, records, pops, before, calm, calm-fair, asks-one, asks, asks-will, all_short, made}
 use Rattle.rules.proofs.Views.{resting-step}
 
@@ -45,14 +45,14 @@ ten-rounds =
 
 -- a round of the recorder's alone, tested
 abbrev alone : List Happening → World → Bool
-alone ms w = (calm Sender ms w && calm Recorder ms w) && (asks ms w && (leb 1 (turnsBy calling Recorder ms w) && (isResting (stanceOf (partyIn w Sender).step) && leb 2 (length w.trace.sent))))
+alone ms w = (calm Sender ms w && calm Recorder ms w) && (asks ms w && (leb 1 (turns_by calling Recorder ms w) && (is_resting (stance_of (party_in w Sender).step) && leb 2 (length w.trace.sent))))
 
 abbrev all-alone : List (List Happening) → World → Bool
 all-alone [] w = true
 all-alone (ms ∷ rounds) w = alone ms w && all-alone rounds (run ms w)
 
 -- its doings are its own
-own-one : (h : Happening) → asks-one h ≡ true → Typed h × (doneBy h ≡ Recorder)
+own-one : (h : Happening) → asks-one h ≡ true → Typed h × (done_by h ≡ Recorder)
 own-one (attaches side n) e = absurd (let z : ◌≡◌ {A = ℕ} 0 1 = cc in omega arith)
 own-one (plays (Turn Sender) i o) e = absurd (let z : ◌≡◌ {A = ℕ} 0 1 = cc in omega arith)
 own-one (plays (Turn Recorder) i o) e = (tt, refl)
@@ -65,10 +65,10 @@ own-one (plays (Close side) i o) e = absurd (let z : ◌≡◌ {A = ℕ} 0 1 = c
 own-one (plays (Shutdown side) i o) e = absurd (let z : ◌≡◌ {A = ℕ} 0 1 = cc in omega arith)
 
 head-asks : (h : Happening) (ms : List Happening) (w : World) → asks (h ∷ ms) w ≡ true → asks-one h ≡ true
-head-asks h ms w e = and_left (asks-one h) _ (and_left (asks-one h && all_short w.trace.sent (partyIn w Recorder).length) _ e)
+head-asks h ms w e = and_left (asks-one h) _ (and_left (asks-one h && all_short w.trace.sent (party_in w Recorder).length) _ e)
 
 tail-asks : (h : Happening) (ms : List Happening) (w : World) → asks (h ∷ ms) w ≡ true → asks ms (happens h w) ≡ true
-tail-asks h ms w e = and_right (asks-one h && all_short w.trace.sent (partyIn w Recorder).length) _ e
+tail-asks h ms w e = and_right (asks-one h && all_short w.trace.sent (party_in w Recorder).length) _ e
 
 own-typed : (ms : List Happening) (w : World) → asks ms w ≡ true → AllTyped ms
 own-typed [] w e = tt
@@ -90,27 +90,27 @@ all-rounds (ms ∷ rounds) w e = (one, all-rounds rounds (run ms w) (and_right (
     calms : (calm Sender ms w && calm Recorder ms w) ≡ true
     calms = and_left (calm Sender ms w && calm Recorder ms w) _ here
 
-    rest : (asks ms w && (leb 1 (turnsBy calling Recorder ms w) && (isResting (stanceOf (partyIn w Sender).step) && leb 2 (length w.trace.sent)))) ≡ true
+    rest : (asks ms w && (leb 1 (turns_by calling Recorder ms w) && (is_resting (stance_of (party_in w Sender).step) && leb 2 (length w.trace.sent)))) ≡ true
     rest = and_right (calm Sender ms w && calm Recorder ms w) _ here
 
-    late : (leb 1 (turnsBy calling Recorder ms w) && (isResting (stanceOf (partyIn w Sender).step) && leb 2 (length w.trace.sent))) ≡ true
+    late : (leb 1 (turns_by calling Recorder ms w) && (is_resting (stance_of (party_in w Sender).step) && leb 2 (length w.trace.sent))) ≡ true
     late = and_right (asks ms w) _ rest
 
-    still : (isResting (stanceOf (partyIn w Sender).step) && leb 2 (length w.trace.sent)) ≡ true
-    still = and_right (leb 1 (turnsBy calling Recorder ms w)) _ late
+    still : (is_resting (stance_of (party_in w Sender).step) && leb 2 (length w.trace.sent)) ≡ true
+    still = and_right (leb 1 (turns_by calling Recorder ms w)) _ late
 
     by : (side : Side) → AllFair side ms w × (WillingAmid side ms w × TakesPart 2 side ms w)
-    by Sender = (calm-fair Sender ms w (and_left (calm Sender ms w) _ calms), (amid Sender ms w (and_left (asks ms w) _ rest), inr (resting-step (partyIn w Sender).step (and_left (isResting (stanceOf (partyIn w Sender).step)) _ still), leb-true 2 (length w.trace.sent) (and_right (isResting (stanceOf (partyIn w Sender).step)) _ still))))
-    by Recorder = (calm-fair Recorder ms w (and_right (calm Sender ms w) _ calms), (amid Recorder ms w (and_left (asks ms w) _ rest), inl (leb-true 1 (turnsBy calling Recorder ms w) (and_left (leb 1 (turnsBy calling Recorder ms w)) _ late))))
+    by Sender = (calm-fair Sender ms w (and_left (calm Sender ms w) _ calms), (amid Sender ms w (and_left (asks ms w) _ rest), inr (resting-step (party_in w Sender).step (and_left (is_resting (stance_of (party_in w Sender).step)) _ still), leb-true 2 (length w.trace.sent) (and_right (is_resting (stance_of (party_in w Sender).step)) _ still))))
+    by Recorder = (calm-fair Recorder ms w (and_right (calm Sender ms w) _ calms), (amid Recorder ms w (and_left (asks ms w) _ rest), inl (leb-true 1 (turns_by calling Recorder ms w) (and_left (leb 1 (turns_by calling Recorder ms w)) _ late))))
 
     one : Round 2 ms w
     one = (own-typed ms w (and_left (asks ms w) _ rest), by)
 
 -- computed, byte by byte
 computed :
-    (calm Sender before (opened start) ≡ true) × (calm Recorder before (opened start) ≡ true) × ((partyIn made Sender).step ≡ Rest) × (inCall (partyIn made Recorder).step ≡ true)
-    × (length made.trace.sent ≡ 2) × (waiting made ≡ 2) × (all-alone ten-rounds made ≡ true) × (waiting (playedOut ten-rounds made) ≡ 1)
-unfolding magicOk versionOk sizesOk flagChecks ringChecks regionChecks attachChecks attachAnswer attachReply attachLeaves createAnswer created blank headed powerOk slotOk spinsOk capacity payloadCapacity ringBytes totalBytes slot_at head_of slotBytes slotPut bufferPut value_of leavesOf bufferOf wakened settled turned played playedLeaves sound ready pushSpec popSpec roomOf wasBlocked doorOf fitOf napOf nextSpec happens run lookMove copyMove publishMove checkMove wakeMove gateMove toSpin spinMove againMove waitMove closeMove shutMove move_of takeSpec goes actSpec actLeaves actBuffer turnSpec turnLeaves zeros bytesAre leAt le_bytes putLe plus minus
+    (calm Sender before (opened start) ≡ true) × (calm Recorder before (opened start) ≡ true) × ((party_in made Sender).step ≡ Rest) × (in_call (party_in made Recorder).step ≡ true)
+    × (length made.trace.sent ≡ 2) × (waiting made ≡ 2) × (all-alone ten-rounds made ≡ true) × (waiting (played_out ten-rounds made) ≡ 1)
+unfolding magic_ok version_ok sizes_ok flag_checks ring_checks region_checks attach_checks attach_answer attach_reply attach_leaves create_answer created blank headed power_ok slot_ok spins_ok capacity payload_capacity ring_bytes total_bytes slot_at head_of slot_bytes slot_put buffer_put value_of leaves_of buffer_of wakened settled turned played played_leaves sound ready push_spec pop_spec room_of was_blocked door_of fit_of nap_of next_spec happens run look_move copy_move publish_move check_move wake_move gate_move to_spin spin_move again_move wait_move close_move shut_move move_of take_spec goes act_spec act_leaves act_buffer turn_spec turn_leaves zeros bytes_are le_at le_bytes put_le plus minus
 computed = (refl, refl, refl, refl, refl, refl, refl, refl)
 
 typed-before : AllTyped before
@@ -123,6 +123,6 @@ night-tight = (before, (ten-rounds, ((typed-before, (fair, calls)), (rw computed
     fair Sender = calm-fair Sender before (opened start) computed.0
     fair Recorder = calm-fair Recorder before (opened start) computed.1
 
-    calls : (side : Side) → inCall (partyIn made side).step ≡ true
-    calls Sender = ap inCall computed.2
+    calls : (side : Side) → in_call (party_in made side).step ≡ true
+    calls Sender = ap in_call computed.2
     calls Recorder = computed.3

@@ -14,27 +14,27 @@ use Rattle.types.specs.declared.Answer.TheVariants.{Done}
 use Rattle.types.specs.declared.Step.TheVariants.{Rest}
 use Rattle.types.specs.declared.Event.TheVariants.{Turn, Failing, Spurious, TimeOut, Push, Pop, Close, Shutdown}
 use Rattle.types.specs.declared.Fault.TheVariants.{Fine}
-use Rattle.layout.specs.Attach.{magicOk, versionOk, sizesOk, flagChecks, ringChecks, regionChecks, attachChecks, attachAnswer, attachReply, attachLeaves}
-use Rattle.layout.specs.Create.{createAnswer, created}
+use Rattle.layout.specs.Attach.{magic_ok, version_ok, sizes_ok, flag_checks, ring_checks, region_checks, attach_checks, attach_answer, attach_reply, attach_leaves}
+use Rattle.layout.specs.Create.{create_answer, created}
 use Rattle.layout.specs.Header.{blank, headed}
-use Rattle.layout.specs.Limits.{powerOk, slotOk, spinsOk, capacity, payloadCapacity, ringBytes, totalBytes}
-use Rattle.layout.specs.Slots.{slot_at, head_of, slotBytes, slotPut, bufferPut}
-use Rattle.rules.specs.Access.{value_of, leavesOf, bufferOf}
-use Rattle.rules.specs.Bench.{wakened, settled, turned, played, playedLeaves}
-use Rattle.rules.specs.Calls.{sound, ready, pushSpec, popSpec}
-use Rattle.rules.specs.Looks.{roomOf, wasBlocked, doorOf, fitOf, napOf}
-use Rattle.rules.specs.Next.{nextSpec}
+use Rattle.layout.specs.Limits.{power_ok, slot_ok, spins_ok, capacity, payload_capacity, ring_bytes, total_bytes}
+use Rattle.layout.specs.Slots.{slot_at, head_of, slot_bytes, slot_put, buffer_put}
+use Rattle.rules.specs.Access.{value_of, leaves_of, buffer_of}
+use Rattle.rules.specs.Bench.{wakened, settled, turned, played, played_leaves}
+use Rattle.rules.specs.Calls.{sound, ready, push_spec, pop_spec}
+use Rattle.rules.specs.Looks.{room_of, was_blocked, door_of, fit_of, nap_of}
+use Rattle.rules.specs.Next.{next_spec}
 use Rattle.rules.specs.Run.{happens, run}
-use Rattle.rules.specs.Steps.{lookMove, copyMove, publishMove, checkMove, wakeMove, gateMove, toSpin, spinMove, againMove, waitMove, closeMove, shutMove}
-use Rattle.rules.specs.Take.{move_of, takeSpec}
-use Rattle.rules.specs.Turn.{goes, actSpec, actLeaves, actBuffer, turnSpec, turnLeaves}
-use Rattle.words.specs.Bytes.{zeros, bytesAre}
-use Rattle.words.specs.Le.{leAt, le_bytes, putLe}
+use Rattle.rules.specs.Steps.{look_move, copy_move, publish_move, check_move, wake_move, gate_move, to_spin, spin_move, again_move, wait_move, close_move, shut_move}
+use Rattle.rules.specs.Take.{move_of, take_spec}
+use Rattle.rules.specs.Turn.{goes, act_spec, act_leaves, act_buffer, turn_spec, turn_leaves}
+use Rattle.words.specs.Bytes.{zeros, bytes_are}
+use Rattle.words.specs.Le.{le_at, le_bytes, put_le}
 use Rattle.words.specs.Wrap.{plus, minus}
 use Rattle.words.proofs.Runs.{and_left, and_right}
-use Rattle.rules.specs.Run.{Note, partyIn, World, Happening, attaches, plays, opened}
+use Rattle.rules.specs.Run.{Note, party_in, World, Happening, attaches, plays, opened}
 use Rattle.rules.specs.Premises.{AllTyped, rung, FairTurn, Fair, AllFair}
-use Rattle.rules.specs.Stretch.{beats, Big, Wills, Willing, inCall}
+use Rattle.rules.specs.Stretch.{beats, Big, Wills, Willing, in_call}
 use Rattle.rules.specs.Claims.{room, Fresh, Tight}
 
 abbrev pub start : List ℕ
@@ -126,10 +126,10 @@ asks-one (plays (Shutdown side) i o) = false
 
 abbrev pub asks : List Happening → World → Bool
 asks [] w = true
-asks (h ∷ hs) w = (asks-one h && all_short w.trace.sent (partyIn w Recorder).length) && asks hs (happens h w)
+asks (h ∷ hs) w = (asks-one h && all_short w.trace.sent (party_in w Recorder).length) && asks hs (happens h w)
 
-pub big-here : (w : World) → all_short w.trace.sent (partyIn w Recorder).length ≡ true → Big Recorder w
-big-here w e = λ at n rest q. short-at w.trace.delivered n rest (partyIn w Recorder).length (subst (λ (x : List Note). all_short x (partyIn w Recorder).length ≡ true) q e)
+pub big-here : (w : World) → all_short w.trace.sent (party_in w Recorder).length ≡ true → Big Recorder w
+big-here w e = λ at n rest q. short-at w.trace.delivered n rest (party_in w Recorder).length (subst (λ (x : List Note). all_short x (party_in w Recorder).length ≡ true) q e)
 
 pub asks-will-one : (h : Happening) (w : World) → asks-one h ≡ true → Big Recorder w → Wills Recorder h w
 asks-will-one (attaches side n) w e h = absurd (let z : ◌≡◌ {A = ℕ} 0 1 = cc in omega arith)
@@ -146,7 +146,7 @@ asks-will-one (plays (Shutdown side) i o) w e h = absurd (let z : ◌≡◌ {A =
 pub asks-will : (hs : List Happening) (w : World) → asks hs w ≡ true → Willing Recorder hs w
 asks-will [] w e = tt
 asks-will (h ∷ hs) w e =
-    let now = asks-one h && all_short w.trace.sent (partyIn w Recorder).length in
+    let now = asks-one h && all_short w.trace.sent (party_in w Recorder).length in
     let one : now ≡ true = and_left now (asks hs (happens h w)) e in
     (asks-will-one h w (and_left (asks-one h) _ one) (big-here w (and_right (asks-one h) _ one)), asks-will hs (happens h w) (and_right now _ e))
 
@@ -155,9 +155,9 @@ made = run before (opened start)
 
 -- computed, byte by byte
 computed :
-    (createAnswer 416 1 16 ≡ Done 0 0) × (calm Recorder (before ++ ten) (opened start) ≡ true) × (asks ten made ≡ true) × ((partyIn made Sender).step ≡ Rest) × (inCall (partyIn made Recorder).step ≡ true)
+    (create_answer 416 1 16 ≡ Done 0 0) × (calm Recorder (before ++ ten) (opened start) ≡ true) × (asks ten made ≡ true) × ((party_in made Sender).step ≡ Rest) × (in_call (party_in made Recorder).step ≡ true)
     × (room Recorder (capacity 1) made ≡ 2) × (beats ten made ≡ 10) × (room Recorder (capacity 1) (run (before ++ ten) (opened start)) ≡ 1)
-unfolding magicOk versionOk sizesOk flagChecks ringChecks regionChecks attachChecks attachAnswer attachReply attachLeaves createAnswer created blank headed powerOk slotOk spinsOk capacity payloadCapacity ringBytes totalBytes slot_at head_of slotBytes slotPut bufferPut value_of leavesOf bufferOf wakened settled turned played playedLeaves sound ready pushSpec popSpec roomOf wasBlocked doorOf fitOf napOf nextSpec happens run lookMove copyMove publishMove checkMove wakeMove gateMove toSpin spinMove againMove waitMove closeMove shutMove move_of takeSpec goes actSpec actLeaves actBuffer turnSpec turnLeaves zeros bytesAre leAt le_bytes putLe plus minus
+unfolding magic_ok version_ok sizes_ok flag_checks ring_checks region_checks attach_checks attach_answer attach_reply attach_leaves create_answer created blank headed power_ok slot_ok spins_ok capacity payload_capacity ring_bytes total_bytes slot_at head_of slot_bytes slot_put buffer_put value_of leaves_of buffer_of wakened settled turned played played_leaves sound ready push_spec pop_spec room_of was_blocked door_of fit_of nap_of next_spec happens run look_move copy_move publish_move check_move wake_move gate_move to_spin spin_move again_move wait_move close_move shut_move move_of take_spec goes act_spec act_leaves act_buffer turn_spec turn_leaves zeros bytes_are le_at le_bytes put_le plus minus
 computed = (refl, refl, refl, refl, refl, refl, refl, refl)
 
 typed-here : AllTyped (before ++ ten)

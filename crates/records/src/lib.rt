@@ -1,6 +1,6 @@
 // The script program's records: what one asks.
 ghost use Rattle.std.specs.Prelude.{◌≡◌, length};
-ghost use Rattle.records.specs.Records.{recordBytes, actionOf, side_of, when, moveAsked, askedAt, askedIn};
+ghost use Rattle.records.specs.Records.{record_bytes, action_of, side_of, when, move_asked, asked_at, asked_in};
 
 use types::{Event, Side};
 
@@ -47,7 +47,7 @@ pub enum Asked {
 }
 
 pub fn action_of(pair: u8) -> Action
-    ensures { result ≡ actionOf pair }
+    ensures { result ≡ action_of pair }
 {
     match pair {
         0 => Action::Turn,
@@ -75,7 +75,7 @@ pub fn when(ok: bool, e: Event) -> Asked
 }
 
 pub fn move_asked(side: Side, mode: u8, tag: u16, length: u16) -> Asked
-    ensures { result ≡ moveAsked side mode tag length }
+    ensures { result ≡ move_asked side mode tag length }
 {
     let known = mode <= 1;
     let blocking = mode == 1;
@@ -90,7 +90,7 @@ pub fn move_asked(side: Side, mode: u8, tag: u16, length: u16) -> Asked
 }
 
 pub fn asked_at(a: Action, side: Side, mode: u8, tag: u16, length: u16, error: u16) -> Asked
-    ensures { result ≡ askedAt a side mode tag length error }
+    ensures { result ≡ asked_at a side mode tag length error }
 {
     match a {
         Action::Turn => Asked::Plays(Event::Turn(side)),
@@ -105,8 +105,8 @@ pub fn asked_at(a: Action, side: Side, mode: u8, tag: u16, length: u16, error: u
 }
 
 pub fn asked_in(given: &[u8]) -> Asked
-    requires { length given.now ≡ recordBytes }
-    ensures { result ≡ askedIn given.now }
+    requires { length given.now ≡ record_bytes }
+    ensures { result ≡ asked_in given.now }
 {
     let kind = words::load8(given, Record::KIND);
     let mode = words::load8(given, Record::MODE);

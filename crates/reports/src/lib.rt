@@ -1,7 +1,7 @@
 // How an answer is reported, and how much of a payload or another slice is lent.
 ghost use Rattle.std.specs.Prelude.{◌≡◌, ◌≤◌, min, eqb, length, take};
 ghost use Rattle.types.specs.Pick.{pick};
-ghost use Rattle.records.specs.Records.{recordBytes, payloadBytes, reportOf, cutReport};
+ghost use Rattle.records.specs.Records.{record_bytes, payload_bytes, report_of, cut_report};
 
 use records::Record;
 use types::Told;
@@ -15,8 +15,8 @@ pub fn least(a: usize, b: usize) -> usize
 
 // As many bytes of a payload as a call names, and no more than there are.
 pub fn lent(n: u32) -> usize
-    ensures is { result ≡ min n payloadBytes }
-    ensures within { result ≤ payloadBytes }
+    ensures is { result ≡ min n payload_bytes }
+    ensures within { result ≤ payload_bytes }
 {
     least(n as usize, Record::PAYLOAD_BYTES)
 }
@@ -32,16 +32,16 @@ pub fn within(asked: u32, s: &[u8]) -> usize
 
 // How many bytes of a buffer a report shows: a delivered note's alone.
 fn shown(number: u8, length: u16) -> usize
-    ensures is { result ≡ pick (eqb number 0) (min length payloadBytes) 0 }
-    ensures within { result ≤ payloadBytes }
+    ensures is { result ≡ pick (eqb number 0) (min length payload_bytes) 0 }
+    ensures within { result ≤ payload_bytes }
 {
     let done = number == 0;
     if done { lent(length as u32) } else { 0 }
 }
 
 pub fn report_of(kind: u8, t: Told, buffer: &[u8], out: &mut [u8])
-    requires { (length buffer.now ≡ payloadBytes) × (length out.old ≡ recordBytes) }
-    ensures { out.new ≡ reportOf kind t buffer.now }
+    requires { (length buffer.now ≡ payload_bytes) × (length out.old ≡ record_bytes) }
+    ensures { out.new ≡ report_of kind t buffer.now }
 {
     let n = shown(t.number, t.length);
     runs::clear(out, Record::BYTES);
@@ -55,7 +55,7 @@ pub fn report_of(kind: u8, t: Told, buffer: &[u8], out: &mut [u8])
 
 // The report of a cut last record.
 pub fn cut_report(out: &mut [u8; 32])
-    ensures { out.new ≡ cutReport }
+    ensures { out.new ≡ cut_report }
 {
     runs::clear(out, Record::BYTES);
     words::store8(out, Record::KIND, 0xFF);

@@ -1,11 +1,11 @@
 // What the counters say to a side.
 ghost use Rattle.std.specs.Prelude.{◌≡◌};
-ghost use Rattle.rules.specs.Looks.{roomWith, roomOf, wasBlocked};
+ghost use Rattle.rules.specs.Looks.{room_with, room_of, was_blocked};
 
 use types::{Room, Side};
 
 pub fn room_with(count: u64, capacity: u64, blocked: u64) -> Room
-    ensures { result ≡ roomWith count capacity blocked }
+    ensures { result ≡ room_with count capacity blocked }
 {
     let above = capacity < count;
     let nothing = count == blocked;
@@ -17,7 +17,7 @@ pub fn room_with(count: u64, capacity: u64, blocked: u64) -> Room
 
 // P1, C1, B3 and W3: the other side's counter.
 pub fn room_of(side: Side, capacity: u64, own: u64, their: u64) -> Room
-    ensures { result ≡ roomOf side capacity own their }
+    ensures { result ≡ room_of side capacity own their }
 {
     let count = sides::used(side, own, their);
     let blocked = sides::limit(side, capacity);
@@ -26,7 +26,7 @@ pub fn room_of(side: Side, capacity: u64, own: u64, their: u64) -> Room
 
 // P4 and C4: whether the other side was blocked before the own counter moved on.
 pub fn was_blocked(side: Side, capacity: u64, own: u64, their: u64) -> bool
-    ensures { result ≡ wasBlocked side capacity own their }
+    ensures { result ≡ was_blocked side capacity own their }
 {
     let old = words::ahead64(own, 1);
     match side {

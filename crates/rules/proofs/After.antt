@@ -8,11 +8,11 @@ use native.Mathlib.Omega.{arith}
 use lib.Dec.{T}
 use lib.ListN.{length}
 use Rattle.words.specs.Bytes.{part}
-use Rattle.words.specs.Le.{leAt, putLe}
+use Rattle.words.specs.Le.{le_at, put_le}
 use Rattle.words.specs.Wrap.{next}
 use Rattle.words.proofs.Wrapped.{plus-lt}
 use Rattle.words.proofs.Sets.{Apart, part_ext}
-use Rattle.words.proofs.Laws.{putLe-other, length-putLe}
+use Rattle.words.proofs.Laws.{put_le-other, length-put_le}
 use Rattle.types.specs.Pick.{pick}
 use Rattle.types.specs.declared.Side.{Side}
 use Rattle.types.specs.declared.Side.TheVariants.{Sender, Recorder}
@@ -22,56 +22,56 @@ use Rattle.types.specs.declared.Mark.TheVariants.{Shutdown}
 use Rattle.types.specs.declared.Own.{Own}
 use Rattle.types.specs.declared.Access.{Access}
 use Rattle.types.specs.declared.Access.TheVariants.{None, LoadCounter, LoadFlags, LoadBell, WriteSlot, ReadSlot, StoreCounter, RaiseBell, SetFlag, WaitBell, WakeBell}
-use Rattle.layout.specs.Limits.{headerBytes, slotHeadBytes}
-use Rattle.layout.specs.Flags.{worth, reservedFrom, setBit}
-use Rattle.layout.specs.Header.{powerAt, slotSizeAt, flagsAt, counterAt, bellAt}
-use Rattle.layout.proofs.SlotLaws.{part-slotPut-other}
+use Rattle.layout.specs.Limits.{header_bytes, slot_head_bytes}
+use Rattle.layout.specs.Flags.{worth, reserved_from, set_bit}
+use Rattle.layout.specs.Header.{power_at, slot_size_at, flags_at, counter_at, bell_at}
+use Rattle.layout.proofs.SlotLaws.{part-slot_put-other}
 use Rattle.layout.proofs.FlagLaws.{flags-small}
-use Rattle.rules.specs.Sides.{sameSide}
-use Rattle.rules.specs.Bench.{sameBell}
-use Rattle.rules.specs.Access.{place_of, leavesOf}
+use Rattle.rules.specs.Sides.{same_side}
+use Rattle.rules.specs.Bench.{same_bell}
+use Rattle.rules.specs.Access.{place_of, leaves_of}
 use Rattle.rules.proofs.Frames.{clear, word_kept, counter-stored, bell-raised, flag-set}
 
-abbrev pub flagsBy : Access → ℕ → ℕ
-flagsBy None f = f
-flagsBy (LoadCounter side) f = f
-flagsBy LoadFlags f = f
-flagsBy (LoadBell b) f = f
-flagsBy (WriteSlot n) f = f
-flagsBy (ReadSlot n) f = f
-flagsBy (StoreCounter side n) f = f
-flagsBy (RaiseBell b) f = f
-flagsBy (SetFlag m) f = setBit (worth m) f
-flagsBy (WaitBell b e) f = f
-flagsBy (WakeBell b n) f = f
+abbrev pub flags_by : Access → ℕ → ℕ
+flags_by None f = f
+flags_by (LoadCounter side) f = f
+flags_by LoadFlags f = f
+flags_by (LoadBell b) f = f
+flags_by (WriteSlot n) f = f
+flags_by (ReadSlot n) f = f
+flags_by (StoreCounter side n) f = f
+flags_by (RaiseBell b) f = f
+flags_by (SetFlag m) f = set_bit (worth m) f
+flags_by (WaitBell b e) f = f
+flags_by (WakeBell b n) f = f
 
-abbrev pub counterBy : Access → Side → ℕ → ℕ
-counterBy None side c = c
-counterBy (LoadCounter s) side c = c
-counterBy LoadFlags side c = c
-counterBy (LoadBell b) side c = c
-counterBy (WriteSlot n) side c = c
-counterBy (ReadSlot n) side c = c
-counterBy (StoreCounter s n) side c = pick (sameSide s side) n c
-counterBy (RaiseBell b) side c = c
-counterBy (SetFlag m) side c = c
-counterBy (WaitBell b e) side c = c
-counterBy (WakeBell b n) side c = c
+abbrev pub counter_by : Access → Side → ℕ → ℕ
+counter_by None side c = c
+counter_by (LoadCounter s) side c = c
+counter_by LoadFlags side c = c
+counter_by (LoadBell b) side c = c
+counter_by (WriteSlot n) side c = c
+counter_by (ReadSlot n) side c = c
+counter_by (StoreCounter s n) side c = pick (same_side s side) n c
+counter_by (RaiseBell b) side c = c
+counter_by (SetFlag m) side c = c
+counter_by (WaitBell b e) side c = c
+counter_by (WakeBell b n) side c = c
 
-abbrev pub bellBy : Access → Bell → ℕ → ℕ
-bellBy None b c = c
-bellBy (LoadCounter s) b c = c
-bellBy LoadFlags b c = c
-bellBy (LoadBell a) b c = c
-bellBy (WriteSlot n) b c = c
-bellBy (ReadSlot n) b c = c
-bellBy (StoreCounter s n) b c = c
-bellBy (RaiseBell a) b c = pick (sameBell a b) (next 32 c) c
-bellBy (SetFlag m) b c = c
-bellBy (WaitBell a e) b c = c
-bellBy (WakeBell a n) b c = c
+abbrev pub bell_by : Access → Bell → ℕ → ℕ
+bell_by None b c = c
+bell_by (LoadCounter s) b c = c
+bell_by LoadFlags b c = c
+bell_by (LoadBell a) b c = c
+bell_by (WriteSlot n) b c = c
+bell_by (ReadSlot n) b c = c
+bell_by (StoreCounter s n) b c = c
+bell_by (RaiseBell a) b c = pick (same_bell a b) (next 32 c) c
+bell_by (SetFlag m) b c = c
+bell_by (WaitBell a e) b c = c
+bell_by (WakeBell a n) b c = c
 
-pub bell-by-small : (a : Access) (b : Bell) (c : ℕ) → c < 2 ^ 32 → bellBy a b c < 2 ^ 32
+pub bell-by-small : (a : Access) (b : Bell) (c : ℕ) → c < 2 ^ 32 → bell_by a b c < 2 ^ 32
 bell-by-small None b c h = h
 bell-by-small (LoadCounter s) b c h = h
 bell-by-small LoadFlags b c h = h
@@ -79,7 +79,7 @@ bell-by-small (LoadBell a) b c h = h
 bell-by-small (WriteSlot n) b c h = h
 bell-by-small (ReadSlot n) b c h = h
 bell-by-small (StoreCounter s n) b c h = h
-bell-by-small (RaiseBell a) b c h = by (sameBell a b)
+bell-by-small (RaiseBell a) b c h = by (same_bell a b)
   where
     by : (t : Bool) → pick t (next 32 c) c < 2 ^ 32
     by true = plus-lt 32 c 1
@@ -105,20 +105,20 @@ apart-all i w s r e f g (SetFlag m) = g
 apart-all i w s r e f g (WaitBell b e') = tt
 apart-all i w s r e f g (WakeBell b n) = tt
 
-module _ (r : List ℕ) (own : Own) (tag : ℕ) (payload : List ℕ) (long : headerBytes ≤ length r) where
+module _ (r : List ℕ) (own : Own) (tag : ℕ) (payload : List ℕ) (long : header_bytes ≤ length r) where
   abbrev after : Access → List ℕ
-  after a = leavesOf r own a tag payload
+  after a = leaves_of r own a tag payload
 
-  pub power-after : (a : Access) → leAt 1 (after a) powerAt ≡ leAt 1 r powerAt
-  power-after a = word_kept r own tag payload 1 powerAt (omega arith) a (apart-all powerAt 1 tt tt tt tt tt a)
+  pub power-after : (a : Access) → le_at 1 (after a) power_at ≡ le_at 1 r power_at
+  power-after a = word_kept r own tag payload 1 power_at (omega arith) a (apart-all power_at 1 tt tt tt tt tt a)
 
-  pub slot-size-after : (a : Access) → leAt 4 (after a) slotSizeAt ≡ leAt 4 r slotSizeAt
-  slot-size-after a = word_kept r own tag payload 4 slotSizeAt (omega arith) a (apart-all slotSizeAt 4 tt tt tt tt tt a)
+  pub slot-size-after : (a : Access) → le_at 4 (after a) slot_size_at ≡ le_at 4 r slot_size_at
+  slot-size-after a = word_kept r own tag payload 4 slot_size_at (omega arith) a (apart-all slot_size_at 4 tt tt tt tt tt a)
 
-  flags-kept : (a : Access) → T (clear a flagsAt 4) → leAt 4 (after a) flagsAt ≡ leAt 4 r flagsAt
-  flags-kept a t = word_kept r own tag payload 4 flagsAt (omega arith) a t
+  flags-kept : (a : Access) → T (clear a flags_at 4) → le_at 4 (after a) flags_at ≡ le_at 4 r flags_at
+  flags-kept a t = word_kept r own tag payload 4 flags_at (omega arith) a t
 
-  pub flags-after : leAt 4 r flagsAt < reservedFrom → (a : Access) → leAt 4 (after a) flagsAt ≡ flagsBy a (leAt 4 r flagsAt)
+  pub flags-after : le_at 4 r flags_at < reserved_from → (a : Access) → le_at 4 (after a) flags_at ≡ flags_by a (le_at 4 r flags_at)
   flags-after h None = flags-kept None tt
   flags-after h (LoadCounter side) = flags-kept (LoadCounter side) tt
   flags-after h LoadFlags = flags-kept LoadFlags tt
@@ -129,16 +129,16 @@ module _ (r : List ℕ) (own : Own) (tag : ℕ) (payload : List ℕ) (long : hea
   flags-after h (StoreCounter Recorder n) = flags-kept (StoreCounter Recorder n) tt
   flags-after h (RaiseBell NotEmpty) = flags-kept (RaiseBell NotEmpty) tt
   flags-after h (RaiseBell NotFull) = flags-kept (RaiseBell NotFull) tt
-  flags-after h (SetFlag m) = flag-set r own tag payload long m (omega (arith, flags-small m (leAt 4 r flagsAt) h))
+  flags-after h (SetFlag m) = flag-set r own tag payload long m (omega (arith, flags-small m (le_at 4 r flags_at) h))
   flags-after h (WaitBell b e) = flags-kept (WaitBell b e) tt
   flags-after h (WakeBell b n) = flags-kept (WakeBell b n) tt
 
-  counter-in : (side : Side) → counterAt side + 8 ≤ headerBytes
+  counter-in : (side : Side) → counter_at side + 8 ≤ header_bytes
   counter-in Sender = omega arith
   counter-in Recorder = omega arith
 
-  counter-kept : (side : Side) (a : Access) → T (clear a (counterAt side) 8) → leAt 8 (after a) (counterAt side) ≡ leAt 8 r (counterAt side)
-  counter-kept side a t = word_kept r own tag payload 8 (counterAt side) (counter-in side) a t
+  counter-kept : (side : Side) (a : Access) → T (clear a (counter_at side) 8) → le_at 8 (after a) (counter_at side) ≡ le_at 8 r (counter_at side)
+  counter-kept side a t = word_kept r own tag payload 8 (counter_at side) (counter-in side) a t
 
   -- a stored counter is a word
   abbrev pub Word : Access → Type 0
@@ -154,7 +154,7 @@ module _ (r : List ℕ) (own : Own) (tag : ℕ) (payload : List ℕ) (long : hea
   Word (WaitBell b e) = Unit
   Word (WakeBell b n) = Unit
 
-  pub counter-after : (side : Side) (a : Access) → Word a → leAt 8 (after a) (counterAt side) ≡ counterBy a side (leAt 8 r (counterAt side))
+  pub counter-after : (side : Side) (a : Access) → Word a → le_at 8 (after a) (counter_at side) ≡ counter_by a side (le_at 8 r (counter_at side))
   counter-after side None h = counter-kept side None tt
   counter-after side (LoadCounter s) h = counter-kept side (LoadCounter s) tt
   counter-after side LoadFlags h = counter-kept side LoadFlags tt
@@ -174,14 +174,14 @@ module _ (r : List ℕ) (own : Own) (tag : ℕ) (payload : List ℕ) (long : hea
   counter-after side (WaitBell b e) h = counter-kept side (WaitBell b e) tt
   counter-after side (WakeBell b n) h = counter-kept side (WakeBell b n) tt
 
-  bell-in : (b : Bell) → bellAt b + 4 ≤ headerBytes
+  bell-in : (b : Bell) → bell_at b + 4 ≤ header_bytes
   bell-in NotEmpty = omega arith
   bell-in NotFull = omega arith
 
-  bell-kept : (b : Bell) (a : Access) → T (clear a (bellAt b) 4) → leAt 4 (after a) (bellAt b) ≡ leAt 4 r (bellAt b)
-  bell-kept b a t = word_kept r own tag payload 4 (bellAt b) (bell-in b) a t
+  bell-kept : (b : Bell) (a : Access) → T (clear a (bell_at b) 4) → le_at 4 (after a) (bell_at b) ≡ le_at 4 r (bell_at b)
+  bell-kept b a t = word_kept r own tag payload 4 (bell_at b) (bell-in b) a t
 
-  pub bell-after : (b : Bell) (a : Access) → leAt 4 (after a) (bellAt b) ≡ bellBy a b (leAt 4 r (bellAt b))
+  pub bell-after : (b : Bell) (a : Access) → le_at 4 (after a) (bell_at b) ≡ bell_by a b (le_at 4 r (bell_at b))
   bell-after b None = bell-kept b None tt
   bell-after b (LoadCounter s) = bell-kept b (LoadCounter s) tt
   bell-after b LoadFlags = bell-kept b LoadFlags tt
@@ -202,9 +202,9 @@ module _ (r : List ℕ) (own : Own) (tag : ℕ) (payload : List ℕ) (long : hea
   bell-after b (WakeBell c n) = bell-kept b (WakeBell c n) tt
 
   -- a part of the ring: only a written slot changes
-  stored-elsewhere : (w j x i n : ℕ) → j + w ≤ headerBytes → headerBytes ≤ i → i + n ≤ length r → part (putLe w r j x) i n ≡ part r i n
+  stored-elsewhere : (w j x i n : ℕ) → j + w ≤ header_bytes → header_bytes ≤ i → i + n ≤ length r → part (put_le w r j x) i n ≡ part r i n
   stored-elsewhere w j x i n h a b =
-      part_ext 0 (putLe w r j x) r i i n (rw length-putLe b) b (λ k l. putLe-other w r j x (i + k) (inr (omega arith)))
+      part_ext 0 (put_le w r j x) r i i n (rw length-put_le b) b (λ k l. put_le-other w r j x (i + k) (inr (omega arith)))
 
   -- the place of a slot that is written is apart
   abbrev pub Elsewhere : Access → (i n : ℕ) → Type 0
@@ -212,7 +212,7 @@ module _ (r : List ℕ) (own : Own) (tag : ℕ) (payload : List ℕ) (long : hea
   Elsewhere (LoadCounter s) i n = Unit
   Elsewhere LoadFlags i n = Unit
   Elsewhere (LoadBell b) i n = Unit
-  Elsewhere (WriteSlot c) i n = Apart (place_of own c) (slotHeadBytes + length payload) i n
+  Elsewhere (WriteSlot c) i n = Apart (place_of own c) (slot_head_bytes + length payload) i n
   Elsewhere (ReadSlot c) i n = Unit
   Elsewhere (StoreCounter s c) i n = Unit
   Elsewhere (RaiseBell b) i n = Unit
@@ -220,16 +220,16 @@ module _ (r : List ℕ) (own : Own) (tag : ℕ) (payload : List ℕ) (long : hea
   Elsewhere (WaitBell b e) i n = Unit
   Elsewhere (WakeBell b c) i n = Unit
 
-  pub part-after : (i n : ℕ) → headerBytes ≤ i → i + n ≤ length r → (a : Access) → Elsewhere a i n → part (after a) i n ≡ part r i n
-  unfolding leavesOf
+  pub part-after : (i n : ℕ) → header_bytes ≤ i → i + n ≤ length r → (a : Access) → Elsewhere a i n → part (after a) i n ≡ part r i n
+  unfolding leaves_of
   part-after i n h b None e = refl
   part-after i n h b (LoadCounter s) e = refl
   part-after i n h b LoadFlags e = refl
   part-after i n h b (LoadBell c) e = refl
-  part-after i n h b (WriteSlot c) e = part-slotPut-other r (place_of own c) tag payload i n e b
+  part-after i n h b (WriteSlot c) e = part-slot_put-other r (place_of own c) tag payload i n e b
   part-after i n h b (ReadSlot c) e = refl
-  part-after i n h b (StoreCounter s c) e = stored-elsewhere 8 (counterAt s) c i n (counter-in s) h b
-  part-after i n h b (RaiseBell c) e = stored-elsewhere 4 (bellAt c) (next 32 (leAt 4 r (bellAt c))) i n (bell-in c) h b
-  part-after i n h b (SetFlag m) e = stored-elsewhere 4 flagsAt (setBit (worth m) (leAt 4 r flagsAt)) i n (omega arith) h b
+  part-after i n h b (StoreCounter s c) e = stored-elsewhere 8 (counter_at s) c i n (counter-in s) h b
+  part-after i n h b (RaiseBell c) e = stored-elsewhere 4 (bell_at c) (next 32 (le_at 4 r (bell_at c))) i n (bell-in c) h b
+  part-after i n h b (SetFlag m) e = stored-elsewhere 4 flags_at (set_bit (worth m) (le_at 4 r flags_at)) i n (omega arith) h b
   part-after i n h b (WaitBell c x) e = refl
   part-after i n h b (WakeBell c x) e = refl

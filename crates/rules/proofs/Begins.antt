@@ -8,9 +8,9 @@ use Rattle.types.specs.declared.Side.{Side}
 use Rattle.types.specs.declared.Side.TheVariants.{Sender, Recorder}
 use Rattle.types.specs.declared.Party.{Party}
 use Rattle.types.specs.declared.Step.TheVariants.{Rest}
-use Rattle.layout.specs.Limits.{payloadCapacity}
+use Rattle.layout.specs.Limits.{payload_capacity}
 use Rattle.layout.specs.Create.{created}
-use Rattle.rules.specs.Calls.{sound, ready, pushSpec, popSpec, closeSpec, shutSpec}
+use Rattle.rules.specs.Calls.{sound, ready, push_spec, pop_spec, close_spec, shut_spec}
 use Rattle.rules.specs.Run.{opened}
 use Rattle.rules.specs.Claims.{PushBegins, PopBegins, CloseBegins, ShutBegins, Fresh, reached, Sound}
 use Rattle.rules.proofs.RealRun.{power-fits, slot-fits, real-reached}
@@ -21,19 +21,19 @@ unfolding ready
 is-ready side p h e = rw (h, e)
 
 pub push-begins : (p : Party) → PushBegins p
-unfolding pushSpec
-push-begins p h e c blocking tag length heard fits = rw (is-ready Sender p h e, c, heard, le-leb length (payloadCapacity p.own.slot) fits)
+unfolding push_spec
+push-begins p h e c blocking tag length heard fits = rw (is-ready Sender p h e, c, heard, le-leb length (payload_capacity p.own.slot) fits)
 
 pub pop-begins : (p : Party) → PopBegins p
-unfolding popSpec
+unfolding pop_spec
 pop-begins p h e c blocking length = rw (is-ready Recorder p h e, c)
 
 pub close-begins : (side : Side) (p : Party) → CloseBegins side p
-unfolding closeSpec
+unfolding close_spec
 close-begins side p h e c = rw (is-ready side p h e, c)
 
 pub shut-begins : (side : Side) (p : Party) → ShutBegins side p
-unfolding shutSpec
+unfolding shut_spec
 shut-begins side p h e = rw (is-ready side p h e)
 
 module _ (r : List ℕ) (P S : ℕ) (on : Bool) (v : ℕ) (fresh : Fresh r P S on v) where

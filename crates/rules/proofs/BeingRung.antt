@@ -5,21 +5,21 @@ use mathlib.Core.List.{List}
 use mathlib.Core.Logic.{◌⊎◌, inl, inr}
 use Prim.Native.Nat.{ℕ, zero, suc, ◌<◌}
 use native.Mathlib.Omega.{arith}
-use Rattle.words.specs.Le.{leAt}
+use Rattle.words.specs.Le.{le_at}
 use Rattle.types.specs.declared.Side.{Side}
 use Rattle.types.specs.declared.Side.TheVariants.{Sender, Recorder}
 use Rattle.types.specs.declared.Step.{Step}
 use Rattle.types.specs.declared.Step.TheVariants.{Rest, Look, Copy, Publish, Check, Raise, Wake, Gate, Spin, Epoch, Again, GateAgain, Wait, Asleep, LastLook, CloseSet, CloseRaise, CloseWake, ShutSet, ShutRaiseNe, ShutWakeNe, ShutRaiseNf, ShutWakeNf}
-use Rattle.layout.specs.Header.{flagsAt}
+use Rattle.layout.specs.Header.{flags_at}
 use Rattle.rules.specs.Sides.{other, rings}
-use Rattle.rules.specs.Run.{World, partyIn}
+use Rattle.rules.specs.Run.{World, party_in}
 use Rattle.rules.specs.Claims.{Fresh, reached}
 use Rattle.rules.specs.Both.{Ringing, checking, raising, waking, close-raising, close-waking, shut-raising, shut-waking, shut-raising-ne, shut-waking-ne, shut-raising-nf, shut-waking-nf, BeingRung}
 use Rattle.rules.proofs.Heard.{Cause, Due, duty}
 use Rattle.rules.proofs.Listening.{ReadyAt, never}
 use Rattle.rules.proofs.Leads.{stop_at}
 use Rattle.rules.proofs.Causes.{room-is, ready-reached}
-use Rattle.rules.proofs.Real.{roomIn}
+use Rattle.rules.proofs.Real.{room_in}
 
 pub ringing : (τ : Side) (s : Step) (k : ℕ) → Due true (duty τ s) k → (n : ℕ) × Ringing k τ s n
 ringing τ Rest k d = absurd d
@@ -56,18 +56,18 @@ has-cause zero true h = tt
 has-cause zero false (inl h) = absurd (omega arith)
 has-cause zero false (inr h) = absurd (let z : ◌≡◌ {A = ℕ} 0 1 = cc in omega arith)
 
-pub due : (P S v : ℕ) (on h : Bool) (σ τ : Side) (w : World) → (partyIn w σ).step ≡ Asleep → ReadyAt P S v on h σ τ w
-    → Cause (roomIn P S v on σ w.trace) (stop_at σ (leAt 4 w.region flagsAt)) → Due true (duty τ (partyIn w τ).step) (roomIn P S v on σ w.trace)
+pub due : (P S v : ℕ) (on h : Bool) (σ τ : Side) (w : World) → (party_in w σ).step ≡ Asleep → ReadyAt P S v on h σ τ w
+    → Cause (room_in P S v on σ w.trace) (stop_at σ (le_at 4 w.region flags_at)) → Due true (duty τ (party_in w τ).step) (room_in P S v on σ w.trace)
 due P S v on true σ τ w e y = rw e at y
-due P S v on false σ τ w e y = λ c. absurd (never (partyIn w σ).blocking (rw e at y))
+due P S v on false σ τ w e y = λ c. absurd (never (party_in w σ).blocking (rw e at y))
 
 module _ (r : List ℕ) (P S : ℕ) (on : Bool) (v : ℕ) (fresh : Fresh r P S on v) where
   pub being-rung : (side : Side) → BeingRung r P S on v side
   being-rung side hs o =
       let w = reached r P S on v hs in
       let e = room-is r P S on v fresh side hs o.0 in
-      subst (λ (k : ℕ). (n : ℕ) × Ringing k (other side) (partyIn w (other side)).step n) (sym e)
-      (ringing (other side) (partyIn w (other side)).step (roomIn P S v on side w.trace)
+      subst (λ (k : ℕ). (n : ℕ) × Ringing k (other side) (party_in w (other side)).step n) (sym e)
+      (ringing (other side) (party_in w (other side)).step (room_in P S v on side w.trace)
       (due P S v on (rings (other side) on) side (other side) w o.1.1.0 (ready-reached r P S on v fresh side hs o.0 o.1.0)
-      (has-cause (roomIn P S v on side w.trace) (stop_at side (leAt 4 w.region flagsAt))
-      (subst (λ (k : ℕ). (0 < k) ⊎ (stop_at side (leAt 4 w.region flagsAt) ≡ true)) e o.1.1.1))))
+      (has-cause (room_in P S v on side w.trace) (stop_at side (le_at 4 w.region flags_at))
+      (subst (λ (k : ℕ). (0 < k) ⊎ (stop_at side (le_at 4 w.region flags_at) ≡ true)) e o.1.1.1))))

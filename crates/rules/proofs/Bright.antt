@@ -10,8 +10,8 @@ use Rattle.types.specs.declared.Step.TheVariants.{Rest, Look, Copy, Publish, Che
 use Rattle.rules.specs.Claims.{room}
 use Rattle.rules.specs.Phase.{Phase, resting, looking, copying, publishing, telling, asking, armed, poised, waits, sleeps, glancing, leaving, phase}
 use Rattle.rules.proofs.Leads.{Sight, asks, Leads, idles, finds, blocks, gives_up, copies, spills, tells, stores, owes, passes, raises, wakes, enters, stops, finds-spin, spins, reads, finds-again, stays, enters-again, stops-again, returns, ends, glances, glances-again, times-out, finds-last, finds-none, closes, closes-alone, close-raises, close-wakes, shuts, shut-raises, shut-wakes, shut-raises-again, shut-wakes-again, dreams as dreams-on, sleeps as falls-asleep}
-use Rattle.rules.proofs.Heard.{rungBy}
-use Rattle.rules.proofs.Own.{waitsOn}
+use Rattle.rules.proofs.Heard.{rung_by}
+use Rattle.rules.proofs.Own.{waits_on}
 use Rattle.rules.proofs.Asks.{Asked, stayed, looks, glances as glanced}
 
 -- one that does not fall asleep over its room: where it holds an epoch and has looked, its bell has been raised since
@@ -43,7 +43,7 @@ bright-more sleeps n m h y = y
 bright-more glancing n m h y = tt
 bright-more leaving n m h y = tt
 
-pub bright-on : (g : Sight) → 0 < g.room → (s next : Step) → Leads g s next → (n n' : ℕ) → ((e : ℕ) → s ≡ Wait e → g.bell ≡ e → n ≡ 0) → (waitsOn s ≡ true → n' ≡ n) → Bright (phase s) n → Bright (phase next) n'
+pub bright-on : (g : Sight) → 0 < g.room → (s next : Step) → Leads g s next → (n n' : ℕ) → ((e : ℕ) → s ≡ Wait e → g.bell ≡ e → n ≡ 0) → (waits_on s ≡ true → n' ≡ n) → Bright (phase s) n → Bright (phase next) n'
 bright-on g k s next idles n n' p f y = tt
 bright-on g k s next (finds h) n n' p f y = tt
 bright-on g k s next (blocks h q) n n' p f y = tt
@@ -85,7 +85,7 @@ bright-on g k s next shut-raises-again n n' p f y = tt
 bright-on g k s next shut-wakes-again n n' p f y = tt
 
 -- the other's turns raise a bell, and never lower it
-pub rung-more : (side : Side) (s : Step) (n : ℕ) → n ≤ rungBy side s n
+pub rung-more : (side : Side) (s : Step) (n : ℕ) → n ≤ rung_by side s n
 rung-more side Rest n = omega arith
 rung-more side Look n = omega arith
 rung-more side Copy n = omega arith

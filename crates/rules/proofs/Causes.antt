@@ -5,25 +5,25 @@ use mathlib.Core.List.{List}
 use mathlib.Core.Logic.{inr}
 use Prim.Native.Nat.{ℕ, ◌-◌}
 use native.Mathlib.Omega.{arith}
-use Rattle.words.specs.Le.{leAt}
+use Rattle.words.specs.Le.{le_at}
 use Rattle.types.specs.declared.Side.{Side}
 use Rattle.types.specs.declared.Side.TheVariants.{Sender, Recorder}
 use Rattle.layout.specs.Limits.{capacity}
-use Rattle.layout.specs.Header.{flagsAt}
+use Rattle.layout.specs.Header.{flags_at}
 use Rattle.layout.specs.Create.{created}
 use Rattle.layout.proofs.SizeLaws.{capacity-least}
 use Rattle.rules.specs.Sides.{other, rings}
-use Rattle.rules.specs.Run.{Happening, partyIn, opened}
+use Rattle.rules.specs.Run.{Happening, party_in, opened}
 use Rattle.rules.specs.Premises.{AllTyped, AllFair}
 use Rattle.rules.specs.Claims.{room, Fresh, reached, WithCause, NotBoth}
 use Rattle.rules.proofs.RealRun.{power-fits, slot-fits, real-start, waiting-is}
 use Rattle.rules.proofs.Fairly.{Ready, ready-run, ready-start, quiet-duty, causeless, no_stop, dozes}
 use Rattle.rules.proofs.Leads.{stop_at}
-use Rattle.rules.proofs.Real.{roomIn}
+use Rattle.rules.proofs.Real.{room_in}
 
 module _ (r : List ℕ) (P S : ℕ) (on : Bool) (v : ℕ) (fresh : Fresh r P S on v) where
   -- the room in the bytes is the room in the counts
-  pub room-is : (side : Side) (hs : List Happening) → AllTyped hs → room side (capacity P) (reached r P S on v hs) ≡ roomIn P S v on side (reached r P S on v hs).trace
+  pub room-is : (side : Side) (hs : List Happening) → AllTyped hs → room side (capacity P) (reached r P S on v hs) ≡ room_in P S v on side (reached r P S on v hs).trace
   room-is Sender hs y = ap (λ (u : ℕ). capacity P - u) (waiting-is r P S on v fresh hs y)
   room-is Recorder hs y = waiting-is r P S on v fresh hs y
 
@@ -34,7 +34,7 @@ module _ (r : List ℕ) (P S : ℕ) (on : Bool) (v : ℕ) (fresh : Fresh r P S o
   pub with-cause : (side : Side) → WithCause r P S on v side
   with-cause side hs y f asleep still =
       let w = reached r P S on v hs in
-      let c = causeless (roomIn P S v on side w.trace) (stop_at side (leAt 4 w.region flagsAt)) (dozes P S v on (rings (other side) on) side (other side) w (quiet-duty (other side) (partyIn w (other side)).step still) asleep (ready-reached side hs y f)) in
+      let c = causeless (room_in P S v on side w.trace) (stop_at side (le_at 4 w.region flags_at)) (dozes P S v on (rings (other side) on) side (other side) w (quiet-duty (other side) (party_in w (other side)).step still) asleep (ready-reached side hs y f)) in
       (room-is side hs y ∙ c.0, no_stop _ _ c.1)
 
   pub not-both : NotBoth r P S on v

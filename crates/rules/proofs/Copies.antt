@@ -14,27 +14,27 @@ use Rattle.types.specs.declared.Own.{Own}
 use Rattle.types.specs.declared.Fit.{Fit}
 use Rattle.types.specs.declared.Fit.TheVariants.{Bad, Small, Fits}
 use Rattle.types.specs.declared.Access.TheVariants.{WriteSlot, ReadSlot}
-use Rattle.layout.specs.Limits.{powerOk, slotOk, payloadCapacity}
-use Rattle.layout.specs.Slots.{slot_at, headWord, head_of, bufferPut}
+use Rattle.layout.specs.Limits.{power_ok, slot_ok, payload_capacity}
+use Rattle.layout.specs.Slots.{slot_at, head_word, head_of, buffer_put}
 use Rattle.layout.proofs.SizeLaws.{slot-within, payload-in, payload-short}
 use Rattle.layout.proofs.SlotLaws.{put-head, put_payload}
-use Rattle.rules.specs.Looks.{fitOf}
-use Rattle.rules.specs.Steps.{fitMove}
-use Rattle.rules.specs.Take.{stepAfter}
-use Rattle.rules.specs.Access.{slot_of, value_of, leavesOf, bufferOf}
+use Rattle.rules.specs.Looks.{fit_of}
+use Rattle.rules.specs.Steps.{fit_move}
+use Rattle.rules.specs.Take.{step_after}
+use Rattle.rules.specs.Access.{slot_of, value_of, leaves_of, buffer_of}
 use Rattle.rules.specs.Run.{Note, Trace, buffered}
 use Rattle.rules.specs.Phase.{phase}
 use Rattle.rules.proofs.FitLaws.{fit-good}
-use Rattle.rules.proofs.Real.{sizes, nth, noteHead, HoldsAt, InHand, Fixed}
+use Rattle.rules.proofs.Real.{sizes, nth, note_head, HoldsAt, InHand, Fixed}
 
-module _ (P S v : ℕ) (on : Bool) (power-ok : powerOk P ≡ true) (Slot-ok : slotOk S ≡ true) (r : List ℕ) (fixed : Fixed P S v on r) (t : Trace) where
+module _ (P S v : ℕ) (on : Bool) (power-ok : power_ok P ≡ true) (Slot-ok : slot_ok S ≡ true) (r : List ℕ) (fixed : Fixed P S v on r) (t : Trace) where
   slot-in : (c : ℕ) → slot_at P S c + S ≤ length r
   slot-in c = omega (arith, slot-within P power-ok S c, fixed.long)
 
   -- P2
-  pub copy_written : (own : Own) (c tag : ℕ) (payload : List ℕ) → own ≡ sizes P S v on Sender own.spins → c ≡ plus 64 v (length t.sent) → tag < 2 ^ 16 → length payload ≤ payloadCapacity S
-      → HoldsAt P S v on (leavesOf r own (WriteSlot c) tag payload) (length t.sent) (record { tag = tag; body = payload })
-  unfolding leavesOf
+  pub copy_written : (own : Own) (c tag : ℕ) (payload : List ℕ) → own ≡ sizes P S v on Sender own.spins → c ≡ plus 64 v (length t.sent) → tag < 2 ^ 16 → length payload ≤ payload_capacity S
+      → HoldsAt P S v on (leaves_of r own (WriteSlot c) tag payload) (length t.sent) (record { tag = tag; body = payload })
+  unfolding leaves_of
   copy_written own c tag payload o e g f =
       rw (o, e) record {
         head = put-head r (slot_at P S (plus 64 v (length t.sent))) S tag payload (slot-in (plus 64 v (length t.sent))) (payload-in S Slot-ok (length payload) f) (payload-short S Slot-ok (length payload) f) g;
@@ -53,22 +53,22 @@ module _ (P S v : ℕ) (on : Bool) (power-ok : powerOk P ≡ true) (Slot-ok : sl
     abbrev head : SlotHead
     head = head_of (value_of r own (ReadSlot c))
 
-    pub head-is : head ≡ noteHead n
+    pub head-is : head ≡ note_head n
     unfolding value_of
-    head-is = ap (λ (s : List ℕ). head_of (headWord s)) slot_is ∙ holds.head
+    head-is = ap (λ (s : List ℕ). head_of (head_word s)) slot_is ∙ holds.head
 
     -- what a copy that fits leaves in the buffer
-    pub filled : (named : ℕ) (lent : List ℕ) → fitOf (noteHead n) (payloadCapacity own.slot) named ≡ Fits → bufferOf r own (ReadSlot c) named lent ≡ n.body ++ drop (length n.body) lent
-    unfolding value_of bufferOf bufferPut
+    pub filled : (named : ℕ) (lent : List ℕ) → fit_of (note_head n) (payload_capacity own.slot) named ≡ Fits → buffer_of r own (ReadSlot c) named lent ≡ n.body ++ drop (length n.body) lent
+    unfolding value_of buffer_of buffer_put
     filled named lent g = rw (head-is, g, slot_is, holds.payload)
 
     -- the next step and the hand, by how it fits
-    pub copy_read : (named : ℕ) (lent : List ℕ) → length lent ≡ named → (f : Fit) → fitOf head (payloadCapacity own.slot) named ≡ f → nth t.sent (length t.delivered) ≡ n
-        → (r' : List ℕ) → InHand P S v on Recorder (phase (stepAfter (fitMove f head.length head.tag) Copy)) r' (buffered (bufferOf r own (ReadSlot c) named lent) t)
+    pub copy_read : (named : ℕ) (lent : List ℕ) → length lent ≡ named → (f : Fit) → fit_of head (payload_capacity own.slot) named ≡ f → nth t.sent (length t.delivered) ≡ n
+        → (r' : List ℕ) → InHand P S v on Recorder (phase (step_after (fit_move f head.length head.tag) Copy)) r' (buffered (buffer_of r own (ReadSlot c) named lent) t)
     copy_read named lent long Bad g first r' = tt
     copy_read named lent long Small g first r' = tt
     copy_read named lent long Fits g first r' =
-        let k : fitOf (noteHead n) (payloadCapacity own.slot) named ≡ Fits = rw head-is at g in
-        let s = fit-good (noteHead n) (payloadCapacity own.slot) named k in
+        let k : fit_of (note_head n) (payload_capacity own.slot) named ≡ Fits = rw head-is at g in
+        let s = fit-good (note_head n) (payload_capacity own.slot) named k in
         rw (head-is, filled named lent k)
         (rw length-append (omega arith), first ∙ ap (λ (b : List ℕ). record { tag = n.tag; body = b }) (sym (take_at n.body (drop (length n.body) lent) (length n.body) refl)))

@@ -5,12 +5,12 @@ use native.Mathlib.Omega.{arith}
 use lib.Dec.{T}
 use Rattle.types.specs.declared.Step.{Step}
 use Rattle.types.specs.declared.Step.TheVariants.{Rest, Look, Copy, Publish, Check, Raise, Wake, Gate, Spin, Epoch, Again, GateAgain, Wait, Asleep, LastLook, CloseSet, CloseRaise, CloseWake, ShutSet, ShutRaiseNe, ShutWakeNe, ShutRaiseNf, ShutWakeNf}
-use Rattle.rules.specs.Take.{stanceOf}
-use Rattle.rules.specs.Stretch.{inCallAt, slack}
+use Rattle.rules.specs.Take.{stance_of}
+use Rattle.rules.specs.Stretch.{in_call_at, slack}
 use Rattle.rules.specs.Phase.{Phase, phase}
-use Rattle.rules.proofs.Does.{less, ownAfter}
+use Rattle.rules.proofs.Does.{less, own_after}
 use Rattle.rules.proofs.Leads.{Sight, Onward, straight, around, asks, Leads, idles, finds, blocks, gives_up, copies, spills, tells, stores, owes, passes, raises, wakes, enters, stops, finds-spin, spins, reads, finds-again, stays, enters-again, stops-again, returns, ends, dreams, glances, glances-again, times-out, finds-last, finds-none, closes, closes-alone, close-raises, close-wakes, shuts, shut-raises, shut-wakes, shut-raises-again, shut-wakes-again, sleeps as falls-asleep}
-use Rattle.rules.proofs.Heard.{roomBy}
+use Rattle.rules.proofs.Heard.{room_by}
 
 -- two turns more for the one store that finds the other blocked
 abbrev pub extra : ℕ → ℕ
@@ -121,11 +121,11 @@ cost-none s (suc k) x h = absurd (omega arith)
 
 -- in a push or a pop, or between calls
 abbrev pub Calls : Phase → Type 0
-Calls ph = T (inCallAt ph)
+Calls ph = T (in_call_at ph)
 
 -- the own room after a turn
-abbrev pub ownRoom : Step → ℕ → ℕ
-ownRoom s k = ownAfter (stanceOf s) k
+abbrev pub own_room : Step → ℕ → ℕ
+own_room s k = own_after (stance_of s) k
 
 stored-cost : (l t k x : ℕ) → suc (cost (Check l t) k (suc x)) ≤ cost (Publish l t) (suc k) x
 stored-cost l t zero x = omega arith
@@ -152,7 +152,7 @@ ahead-on n t x (around m) = omega arith
 
 -- with room, a turn of a call takes one off the cost, where a pop's copy fits
 pub fall : (g : Sight) (k : ℕ) → 0 < g.room → (s next : Step) → Leads g s next → Calls (phase s) → (s ≡ Rest → ⊥) → (s ≡ Asleep → ⊥) → (s ≡ Copy → next ≡ Rest → ⊥)
-    → suc (cost next (ownRoom s (suc k)) (roomBy s g.theirs)) ≤ cost s (suc k) g.theirs
+    → suc (cost next (own_room s (suc k)) (room_by s g.theirs)) ≤ cost s (suc k) g.theirs
 fall g k e s next idles c i j f = absurd (i refl)
 fall g k e s next (finds h) c i j f = omega arith
 fall g k e s next (blocks h q) c i j f = absurd (omega arith)

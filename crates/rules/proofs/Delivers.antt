@@ -20,20 +20,20 @@ use Rattle.types.specs.declared.Step.TheVariants.{Check, Raise}
 use Rattle.types.specs.declared.Move.TheVariants.{To, End}
 use Rattle.types.specs.declared.Answer.TheVariants.{Done, Syscall}
 use Rattle.layout.specs.Limits.{capacity}
-use Rattle.rules.specs.Sides.{rings, wakeOp, ringBell}
-use Rattle.rules.specs.Looks.{wasBlocked}
-use Rattle.rules.specs.Steps.{publishMove, checkMove, wakeMove}
-use Rattle.rules.specs.Take.{move_at, move_of, answer_of, takeSpec}
-use Rattle.rules.specs.Next.{next_at, nextSpec}
-use Rattle.rules.specs.Access.{value_of, bufferOf}
-use Rattle.rules.specs.Turn.{errorOf, actSpec}
-use Rattle.rules.specs.Bench.{settled, played, playedLeaves}
+use Rattle.rules.specs.Sides.{rings, wake_op, ring_bell}
+use Rattle.rules.specs.Looks.{was_blocked}
+use Rattle.rules.specs.Steps.{publish_move, check_move, wake_move}
+use Rattle.rules.specs.Take.{move_at, move_of, answer_of, take_spec}
+use Rattle.rules.specs.Next.{next_at, next_spec}
+use Rattle.rules.specs.Access.{value_of, buffer_of}
+use Rattle.rules.specs.Turn.{error_of, act_spec}
+use Rattle.rules.specs.Bench.{settled, played, played_leaves}
 use Rattle.rules.specs.Premises.{AllTyped}
-use Rattle.rules.specs.Run.{Note, Trace, World, Happening, plays, partyIn, carried, traced, happens}
+use Rattle.rules.specs.Run.{Note, Trace, World, Happening, plays, party_in, carried, traced, happens}
 use Rattle.rules.specs.Claims.{waiting, turn_of, Delivering, publishes, checks, wakes, Carries, Fresh, reached, DoneCarries, GetsAll}
 use Rattle.rules.specs.Phase.{phase}
 use Rattle.rules.proofs.Leaving.{turn_is}
-use Rattle.rules.proofs.Taken.{turnWorld}
+use Rattle.rules.proofs.Taken.{turn_world}
 use Rattle.rules.proofs.RealTurn.{turn-is-after}
 use Rattle.rules.proofs.RealRun.{power-fits, slot-fits, real-reached, in_order}
 use Rattle.rules.proofs.Listening.{trace-is}
@@ -56,10 +56,10 @@ module _ (x y : ℕ) where
   or-fails false op f l t e = absurd (let z : ◌≡◌ {A = ℕ} 0 1 = cc in omega arith)
 
   names : (s : Step) → Delivering s → (own : Own) (n : ℕ) (b : Bool) (l v f : ℕ) → answer_of (move_at s own n b l v f) ≡ Done x y → Names (carried s).length (carried s).tag
-  unfolding publishMove checkMove wakeMove
+  unfolding publish_move check_move wake_move
   names s (publishes {l = m} {t = t}) own n b l v f e = or-goes (rings own.side own.notfull) (Check m t) m t e
-  names s (checks {l = m} {t = t}) own n b l v f e = or-goes (wasBlocked own.side (capacity own.power) n v) (Raise m t) m t e
-  names s (wakes {l = m} {t = t}) own n b l v f e = or-fails (eqb f 0) (wakeOp (ringBell own.side)) f m t e
+  names s (checks {l = m} {t = t}) own n b l v f e = or-goes (was_blocked own.side (capacity own.power) n v) (Raise m t) m t e
+  names s (wakes {l = m} {t = t}) own n b l v f e = or-fails (eqb f 0) (wake_op (ring_bell own.side)) f m t e
 
 -- and the trace holds it
 module _ (P S v : ℕ) (on : Bool) (r : List ℕ) (p : Party) (payload buffer : List ℕ) (t : Trace) where
@@ -69,25 +69,25 @@ module _ (P S v : ℕ) (on : Bool) (r : List ℕ) (p : Party) (payload buffer : 
   carries s (checks {l = l} {t = g}) e h = (h.1.0, (record { tag = g; body = take l t.buffer }, (h.1.1, (refl, (length-take-le l t.buffer h.0, refl)))))
   carries s (wakes {l = l} {t = g}) e h = (h.1.0, (record { tag = g; body = take l t.buffer }, (h.1.1, (refl, (length-take-le l t.buffer h.0, refl)))))
 
-pub turn-happens : (side : Side) (payload lent : List ℕ) (fault : Fault) (w : World) → happens (plays (turn_of side fault) payload lent) w ≡ turnWorld w side payload lent fault
-unfolding happens played playedLeaves settled
+pub turn-happens : (side : Side) (payload lent : List ℕ) (fault : Fault) (w : World) → happens (plays (turn_of side fault) payload lent) w ≡ turn_world w side payload lent fault
+unfolding happens played played_leaves settled
 turn-happens side payload lent Fine w = refl
 turn-happens side payload lent (Error e) w = refl
 
 module _ (r : List ℕ) (P S : ℕ) (on : Bool) (v : ℕ) (fresh : Fresh r P S on v) where
   pub done-carries : DoneCarries r P S on v
-  unfolding actSpec takeSpec move_of
+  unfolding act_spec take_spec move_of
   done-carries hs typed payload lent fault l t g d e =
       let w = reached r P S on v hs in
-      let p = partyIn w Recorder in
+      let p = party_in w Recorder in
       let real = real-reached r P S on v fresh hs typed in
       let power-ok = power-fits r P S on v fresh in
       let Slot-ok = slot-fits r P S on v fresh in
-      let value = value_of w.region p.own (nextSpec p) in
-      let a : answer_of (move_at p.step p.own p.counter p.blocking p.length value (errorOf fault)) ≡ Done l t =
+      let value = value_of w.region p.own (next_spec p) in
+      let a : answer_of (move_at p.step p.own p.counter p.blocking p.length value (error_of fault)) ≡ Done l t =
       sym (ap (λ (x : Turned). x.answer) (turn_is Recorder w.region p payload lent fault g)) ∙ e in
-      let n = names l t p.step d p.own p.counter p.blocking p.length value (errorOf fault) a in
-      let buffer = bufferOf w.region p.own (next_at p.step Recorder p.counter) p.length lent in
+      let n = names l t p.step d p.own p.counter p.blocking p.length value (error_of fault) a in
+      let buffer = buffer_of w.region p.own (next_at p.step Recorder p.counter) p.length lent in
       let held = carries P S v on w.region p payload buffer w.trace p.step d refl (real.sides Recorder).hand in
       let last : (happens (plays (turn_of Recorder fault) payload lent) w).trace ≡ traced (next_at p.step Recorder p.counter) p payload buffer w.trace =
       ap (λ (u : World). u.trace) (turn-happens Recorder payload lent fault w ∙ turn-is-after P S v on power-ok Slot-ok w real Recorder payload lent fault g) ∙ trace-is P S v on power-ok Slot-ok w real Recorder payload lent fault g in

@@ -16,38 +16,38 @@ use Rattle.types.specs.declared.Woke.TheVariants.{Nobody}
 use Rattle.types.specs.declared.Step.{Step}
 use Rattle.types.specs.declared.Step.TheVariants.{Asleep}
 use Rattle.rules.specs.Sides.{other}
-use Rattle.rules.specs.Take.{stanceOf, stepAfter, counterAfter, closedAfter, move_at, move_of, answer_of, takeSpec}
-use Rattle.rules.specs.Next.{next_at, nextSpec}
-use Rattle.rules.specs.Access.{value_of, leavesOf, bufferOf}
-use Rattle.rules.specs.Turn.{errorOf, wokeOf, actSpec, turnSpec}
-use Rattle.rules.specs.Bench.{seat, wakened, settled, played, playedLeaves}
-use Rattle.rules.specs.Run.{World, plays, partyIn, takes, traced, happens}
+use Rattle.rules.specs.Take.{stance_of, step_after, counter_after, closed_after, move_at, move_of, answer_of, take_spec}
+use Rattle.rules.specs.Next.{next_at, next_spec}
+use Rattle.rules.specs.Access.{value_of, leaves_of, buffer_of}
+use Rattle.rules.specs.Turn.{error_of, woke_of, act_spec, turn_spec}
+use Rattle.rules.specs.Bench.{seat, wakened, settled, played, played_leaves}
+use Rattle.rules.specs.Run.{World, plays, party_in, takes, traced, happens}
 use Rattle.rules.specs.Claims.{turn_of, reached, Dreams}
 use Rattle.rules.proofs.Leaving.{turn_is}
-use Rattle.rules.proofs.Taken.{turnWorld, reseated, turn-refused, turn-taken}
+use Rattle.rules.proofs.Taken.{turn_world, reseated, turn-refused, turn-taken}
 use Rattle.rules.proofs.Seats.{moved}
 
 -- a turn of a sleeper is no access and no change
-module _ (w : World) (side : Side) (payload lent : List ℕ) (fault : Fault) (e : (partyIn w side).step ≡ Asleep) where
+module _ (w : World) (side : Side) (payload lent : List ℕ) (fault : Fault) (e : (party_in w side).step ≡ Asleep) where
   abbrev sleeper : Party
-  sleeper = partyIn w side
+  sleeper = party_in w side
 
-  none_is : nextSpec sleeper ≡ None
-  unfolding nextSpec
+  none_is : next_spec sleeper ≡ None
+  unfolding next_spec
   none_is = ap (λ (u : Step). next_at u sleeper.own.side sleeper.counter) e
 
-  same-closed : closedAfter (stanceOf sleeper.step) sleeper.closed ≡ sleeper.closed
-  same-closed = ap (λ (u : Step). closedAfter (stanceOf u) sleeper.closed) e
+  same-closed : closed_after (stance_of sleeper.step) sleeper.closed ≡ sleeper.closed
+  same-closed = ap (λ (u : Step). closed_after (stance_of u) sleeper.closed) e
 
-  same-counter : counterAfter (stanceOf sleeper.step) sleeper.counter ≡ sleeper.counter
-  same-counter = ap (λ (u : Step). counterAfter (stanceOf u) sleeper.counter) e
+  same-counter : counter_after (stance_of sleeper.step) sleeper.counter ≡ sleeper.counter
+  same-counter = ap (λ (u : Step). counter_after (stance_of u) sleeper.counter) e
 
-  same_step : (value error : ℕ) → stepAfter (move_of sleeper value error) sleeper.step ≡ sleeper.step
+  same_step : (value error : ℕ) → step_after (move_of sleeper value error) sleeper.step ≡ sleeper.step
   unfolding move_of
   same_step value error =
-      ap (λ (u : Step). stepAfter (move_at u sleeper.own sleeper.counter sleeper.blocking sleeper.length value error) u) e ∙ sym e
+      ap (λ (u : Step). step_after (move_at u sleeper.own sleeper.counter sleeper.blocking sleeper.length value error) u) e ∙ sym e
 
-  same-party : (value error : ℕ) → moved sleeper sleeper.step (stepAfter (move_of sleeper value error) sleeper.step) ≡ sleeper
+  same-party : (value error : ℕ) → moved sleeper sleeper.step (step_after (move_of sleeper value error) sleeper.step) ≡ sleeper
   same-party value error = λ i. record {
     own = sleeper.own;
     closed = same-closed i;
@@ -58,40 +58,40 @@ module _ (w : World) (side : Side) (payload lent : List ℕ) (fault : Fault) (e 
     step = same_step value error i;
   }
 
-  taken-still : takes w side payload lent fault ≡ true → turnWorld w side payload lent fault ≡ w
-  unfolding leavesOf
+  taken-still : takes w side payload lent fault ≡ true → turn_world w side payload lent fault ≡ w
+  unfolding leaves_of
   taken-still g =
       turn-taken w side payload lent fault g
       ∙ ap (λ (x : Access). record {
-        region = leavesOf w.region sleeper.own x sleeper.tag payload;
-        bench = seat (seat w.bench side (moved sleeper sleeper.step (stepAfter (move_of sleeper (value_of w.region sleeper.own (nextSpec sleeper)) (errorOf fault)) sleeper.step))) (other side)
-            (wakened (other side) (partyIn w (other side)) (wokeOf x (errorOf fault)));
-        trace = traced x sleeper payload (bufferOf w.region sleeper.own x sleeper.length lent) w.trace;
+        region = leaves_of w.region sleeper.own x sleeper.tag payload;
+        bench = seat (seat w.bench side (moved sleeper sleeper.step (step_after (move_of sleeper (value_of w.region sleeper.own (next_spec sleeper)) (error_of fault)) sleeper.step))) (other side)
+            (wakened (other side) (party_in w (other side)) (woke_of x (error_of fault)));
+        trace = traced x sleeper payload (buffer_of w.region sleeper.own x sleeper.length lent) w.trace;
       }) none_is
       ∙ ap (λ (q : Party). record {
         region = w.region;
-        bench = seat (seat w.bench side q) (other side) (wakened (other side) (partyIn w (other side)) Nobody);
+        bench = seat (seat w.bench side q) (other side) (wakened (other side) (party_in w (other side)) Nobody);
         trace = w.trace;
-      }) (same-party (value_of w.region sleeper.own (nextSpec sleeper)) (errorOf fault))
+      }) (same-party (value_of w.region sleeper.own (next_spec sleeper)) (error_of fault))
       ∙ ap (λ (b : Bench). record { region = w.region; bench = b; trace = w.trace }) (reseated side w.bench)
 
-  asleep-still : turnWorld w side payload lent fault ≡ w
+  asleep-still : turn_world w side payload lent fault ≡ w
   asleep-still = by (takes w side payload lent fault) refl
     where
-      by : (b : Bool) → takes w side payload lent fault ≡ b → turnWorld w side payload lent fault ≡ w
+      by : (b : Bool) → takes w side payload lent fault ≡ b → turn_world w side payload lent fault ≡ w
       by false g = turn-refused w side payload lent fault g
       by true g = taken-still g
 
-  turn-happens : (f : Fault) → f ≡ fault → happens (plays (turn_of side f) payload lent) w ≡ turnWorld w side payload lent f
-  unfolding happens played playedLeaves settled
+  turn-happens : (f : Fault) → f ≡ fault → happens (plays (turn_of side f) payload lent) w ≡ turn_world w side payload lent f
+  unfolding happens played played_leaves settled
   turn-happens Fine q = refl
   turn-happens (Error n) q = refl
 
-  answers-nothing : takes w side payload lent fault ≡ true → (turnSpec side w.region sleeper payload lent fault).answer ≡ Nothing
-  unfolding actSpec takeSpec move_of
+  answers-nothing : takes w side payload lent fault ≡ true → (turn_spec side w.region sleeper payload lent fault).answer ≡ Nothing
+  unfolding act_spec take_spec move_of
   answers-nothing g =
       ap (λ (x : Turned). x.answer) (turn_is side w.region sleeper payload lent fault g)
-      ∙ ap (λ (u : Step). answer_of (move_at u sleeper.own sleeper.counter sleeper.blocking sleeper.length (value_of w.region sleeper.own (nextSpec sleeper)) (errorOf fault))) e
+      ∙ ap (λ (u : Step). answer_of (move_at u sleeper.own sleeper.counter sleeper.blocking sleeper.length (value_of w.region sleeper.own (next_spec sleeper)) (error_of fault))) e
 
 pub dreams-on : (r : List ℕ) (P S : ℕ) (on : Bool) (v : ℕ) (side : Side) → Dreams r P S on v side
 dreams-on r P S on v side hs payload lent fault e =

@@ -8,7 +8,7 @@ use Rattle.types.specs.declared.Side.{Side}
 use Rattle.types.specs.declared.Side.TheVariants.{Sender}
 use Rattle.types.specs.declared.Step.{Step}
 use Rattle.types.specs.declared.Step.TheVariants.{Rest, Look, Copy, Publish, Check, Raise, Wake, Gate, Spin, Epoch, Again, GateAgain, Wait, Asleep, LastLook, CloseSet, CloseRaise, CloseWake, ShutSet, ShutRaiseNe, ShutWakeNe, ShutRaiseNf, ShutWakeNf}
-use Rattle.rules.specs.Take.{stanceOf}
+use Rattle.rules.specs.Take.{stance_of}
 use Rattle.rules.specs.Next.{next_at}
 use Rattle.types.specs.declared.Access.{Access}
 use Rattle.types.specs.declared.Stance.{Stance}
@@ -17,12 +17,12 @@ use Rattle.rules.specs.Stretch.{slack}
 use Rattle.rules.specs.Both.{Ringing, checking, raising, waking, close-raising, close-waking, shut-raising, shut-waking, shut-raising-ne, shut-waking-ne, shut-raising-nf, shut-waking-nf}
 use Rattle.rules.specs.Phase.{Phase, resting, looking, copying, publishing, telling, asking, armed, poised, waits, sleeps, glancing, leaving, phase}
 use Rattle.rules.proofs.Leads.{Sight, Leads, enters-again, stops-again, glances-again, returns, ends, times-out, dreams, sleeps as falls-asleep}
-use Rattle.rules.proofs.Does.{less, ownAfter, Does, does, nothing, flags, reads, writes, takes, stores, raises, closes, shuts, wakes, looks as looks-at, waits as waiting-at}
-use Rattle.rules.proofs.Heard.{Due, duty, roomBy}
-use Rattle.rules.proofs.Own.{waitsOn}
-use Rattle.rules.proofs.Costs.{extra, extra-le, ahead, cost, Calls, ownRoom}
+use Rattle.rules.proofs.Does.{less, own_after, Does, does, nothing, flags, reads, writes, takes, stores, raises, closes, shuts, wakes, looks as looks-at, waits as waiting-at}
+use Rattle.rules.proofs.Heard.{Due, duty, room_by}
+use Rattle.rules.proofs.Own.{waits_on}
+use Rattle.rules.proofs.Costs.{extra, extra-le, ahead, cost, Calls, own_room}
 use Rattle.rules.proofs.Asks.{Asked, stayed, looks, glances as glanced}
-use Rattle.rules.proofs.WaitFree.{Bright, toStores}
+use Rattle.rules.proofs.WaitFree.{Bright, to_stores}
 use Rattle.rules.proofs.NeverStill.{Dull}
 
 -- nobody is both
@@ -104,7 +104,7 @@ asked-same s u n stayed d = refl
 asked-same s u n looks d = absurd d
 asked-same s u n glanced d = absurd d
 
-pub dull-waits : (s : Step) → Dulls s → waitsOn s ≡ true
+pub dull-waits : (s : Step) → Dulls s → waits_on s ≡ true
 dull-waits s at-gate = refl
 dull-waits s at-wait = refl
 dull-waits s at-sleep = refl
@@ -136,7 +136,7 @@ ring-two k j m τ s shut-waking-ne d = omega arith
 ring-two k j m τ s shut-raising-nf d = omega arith
 ring-two k j m τ s shut-waking-nf d = absurd d
 
-pub stores-mono : (s : Step) (j k : ℕ) → j ≤ k → toStores s j ≤ toStores s k
+pub stores-mono : (s : Step) (j k : ℕ) → j ≤ k → to_stores s j ≤ to_stores s k
 stores-mono s zero k h = omega arith
 stores-mono s (suc j) zero h = absurd (omega arith)
 stores-mono s (suc j) (suc k) h = omega arith
@@ -188,16 +188,16 @@ cost-at s zero x a h l e = absurd (omega arith)
 cost-at s (suc k) zero a h l e = absurd (omega arith)
 cost-at s (suc k) (suc x) a h l e = omega (arith, e (suc x))
 
-pub stores_at : (s : Step) (k a : ℕ) → 1 ≤ k → ((y : ℕ) → ahead s y ≡ a + extra y) → toStores s k + 5 ≡ 6 * k + a
+pub stores_at : (s : Step) (k a : ℕ) → 1 ≤ k → ((y : ℕ) → ahead s y ≡ a + extra y) → to_stores s k + 5 ≡ 6 * k + a
 stores_at s zero a h e = absurd (omega arith)
 stores_at s (suc k) a h e = omega (arith, e 1)
 
-pub stores_some : (s : Step) (k : ℕ) → 1 ≤ k → 1 ≤ toStores s k
+pub stores_some : (s : Step) (k : ℕ) → 1 ≤ k → 1 ≤ to_stores s k
 stores_some s zero h = absurd (omega arith)
 stores_some s (suc k) h = omega arith
 
 -- at its store
-pub publish-least : (l t k : ℕ) → 6 * k ≤ toStores (Publish l t) k + 5
+pub publish-least : (l t k : ℕ) → 6 * k ≤ to_stores (Publish l t) k + 5
 publish-least l t zero = omega arith
 publish-least l t (suc k) = omega arith
 
@@ -219,10 +219,10 @@ pub taken-leaves : (x x' y t n i c : ℕ) → 4 * y ≤ c + 1 → c + 2 * x ≤ 
 taken-leaves x x' y t n i c a b d e f g = (omega arith, omega arith)
 
 -- whoever gives room stores
-pub gives-room : (s : Step) → 0 < roomBy s 0 → (l : ℕ) × ((t : ℕ) × (s ≡ Publish l t))
+pub gives-room : (s : Step) → 0 < room_by s 0 → (l : ℕ) × ((t : ℕ) × (s ≡ Publish l t))
 gives-room s h = by s (next_at s Sender 0) (does Sender 0 s) h
   where
-    by : (s : Step) (a : Access) → Does Sender 0 s a → 0 < roomBy s 0 → (l : ℕ) × ((t : ℕ) × (s ≡ Publish l t))
+    by : (s : Step) (a : Access) → Does Sender 0 s a → 0 < room_by s 0 → (l : ℕ) × ((t : ℕ) × (s ≡ Publish l t))
     by s a (nothing l) h = absurd (omega (arith, l.other-room 0))
     by s a (looks-at l) h = absurd (omega (arith, l.other-room 0))
     by s a (flags l) h = absurd (omega (arith, l.other-room 0))
@@ -237,10 +237,10 @@ gives-room s h = by s (next_at s Sender 0) (does Sender 0 s) h
     by s a (wakes l b m) h = absurd (omega (arith, l.other-room 0))
 
 -- a turn stores, or it takes no room
-pub stores-or : (s : Step) → ((k : ℕ) → ownRoom s k ≡ k) ⊎ ((k : ℕ) → ownRoom s k ≡ less k)
-stores-or s = by (stanceOf s)
+pub stores-or : (s : Step) → ((k : ℕ) → own_room s k ≡ k) ⊎ ((k : ℕ) → own_room s k ≡ less k)
+stores-or s = by (stance_of s)
   where
-    by : (u : Stance) → ((k : ℕ) → ownAfter u k ≡ k) ⊎ ((k : ℕ) → ownAfter u k ≡ less k)
+    by : (u : Stance) → ((k : ℕ) → own_after u k ≡ k) ⊎ ((k : ℕ) → own_after u k ≡ less k)
     by Resting = inl (λ k. refl)
     by Sleeping = inl (λ k. refl)
     by Copying = inl (λ k. refl)

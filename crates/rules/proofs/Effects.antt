@@ -13,17 +13,17 @@ use Rattle.types.specs.declared.Step.{Step}
 use Rattle.types.specs.declared.Step.TheVariants.{Rest, Look, Copy, Publish, Check, Raise, Wake, Gate, Spin, Epoch, Again, GateAgain, Wait, Asleep, LastLook, CloseSet, CloseRaise, CloseWake, ShutSet, ShutRaiseNe, ShutWakeNe, ShutRaiseNf, ShutWakeNf}
 use Rattle.types.specs.declared.Access.{Access}
 use Rattle.rules.specs.Sides.{other}
-use Rattle.rules.specs.Take.{stanceOf}
+use Rattle.rules.specs.Take.{stance_of}
 use Rattle.rules.specs.Next.{next_at}
-use Rattle.rules.specs.Run.{Note, Trace, carried, traced, rungOf}
+use Rattle.rules.specs.Run.{Note, Trace, carried, traced, rung_of}
 use Rattle.rules.specs.Phase.{publishing, phase}
-use Rattle.rules.proofs.After.{flagsBy}
+use Rattle.rules.proofs.After.{flags_by}
 use Rattle.rules.proofs.Kept.{length_more}
-use Rattle.rules.proofs.Heard.{rungBy, roomBy, setsNo, setsNone}
-use Rattle.rules.proofs.Own.{waitsOn}
+use Rattle.rules.proofs.Heard.{rung_by, room_by, sets_no, sets_none}
+use Rattle.rules.proofs.Own.{waits_on}
 use Rattle.rules.proofs.Does.{less, Plain, Does, does, nothing, looks, flags, reads as epoch, writes, takes, stores as store, raises as ring, closes as close, shuts as shut, waits as wait, wakes as wake}
-use Rattle.rules.proofs.Costs.{ownRoom}
-use Rattle.rules.proofs.Real.{HasRoom, roomIn, Queue}
+use Rattle.rules.proofs.Costs.{own_room}
+use Rattle.rules.proofs.Real.{HasRoom, room_in, Queue}
 
 module _ (p : Party) (payload buffer : List ℕ) (t : Trace) where
   abbrev after : Access → Trace
@@ -33,7 +33,7 @@ module _ (p : Party) (payload buffer : List ℕ) (t : Trace) where
   told s side = after (next_at s side p.counter)
 
   -- raises of the other's bell
-  pub rung-other : (side : Side) (s : Step) → rungOf (other side) (told s side) ≡ rungBy side s (rungOf (other side) t)
+  pub rung-other : (side : Side) (s : Step) → rung_of (other side) (told s side) ≡ rung_by side s (rung_of (other side) t)
   rung-other side Rest = refl
   rung-other side Look = refl
   rung-other Sender Copy = refl
@@ -66,7 +66,7 @@ module _ (p : Party) (payload buffer : List ℕ) (t : Trace) where
   rung-other side (ShutWakeNf c f) = refl
 
   -- and of the own, at a step of the wait
-  pub rung-own : (side : Side) (s : Step) → waitsOn s ≡ true → rungOf side (told s side) ≡ rungOf side t
+  pub rung-own : (side : Side) (s : Step) → waits_on s ≡ true → rung_of side (told s side) ≡ rung_of side t
   rung-own side Rest h = absurd (let z : ◌≡◌ {A = ℕ} 0 1 = cc in omega arith)
   rung-own side Look h = absurd (let z : ◌≡◌ {A = ℕ} 0 1 = cc in omega arith)
   rung-own side Copy h = absurd (let z : ◌≡◌ {A = ℕ} 0 1 = cc in omega arith)
@@ -106,19 +106,19 @@ module _ (p : Party) (payload buffer : List ℕ) (t : Trace) where
     -- both rooms; one that does not store keeps them
     abbrev Rooms : Side → Step → Access → Type 0
     Rooms side s a =
-        (roomIn P S v on side (after a) ≡ ownRoom s (roomIn P S v on side t)) × (roomIn P S v on (other side) (after a) ≡ roomBy s (roomIn P S v on (other side) t))
+        (room_in P S v on side (after a) ≡ own_room s (room_in P S v on side t)) × (room_in P S v on (other side) (after a) ≡ room_by s (room_in P S v on (other side) t))
 
-    kept : (side : Side) (s : Step) (a : Access) → Plain (stanceOf s) → ((after a).sent ≡ t.sent) × ((after a).delivered ≡ t.delivered) → Rooms side s a
+    kept : (side : Side) (s : Step) (a : Access) → Plain (stance_of s) → ((after a).sent ≡ t.sent) × ((after a).delivered ≡ t.delivered) → Rooms side s a
     kept Sender s a l e = (rw (e.0, e.1) (sym (l.own _)), rw (e.0, e.1) (sym (l.other-room _)))
     kept Recorder s a l e = (rw (e.0, e.1) (sym (l.own _)), rw (e.0, e.1) (sym (l.other-room _)))
 
-    stored : (side : Side) (l g : ℕ) → HasRoom (publishing l g) (roomIn P S v on side t) → Rooms side (Publish l g) (next_at (Publish l g) side p.counter)
+    stored : (side : Side) (l g : ℕ) → HasRoom (publishing l g) (room_in P S v on side t) → Rooms side (Publish l g) (next_at (Publish l g) side p.counter)
     stored Sender l g h = (rw (sent-more, less-is) (omega (arith, queue.below)), rw sent-more (omega (arith, queue.below)))
     stored Recorder l g h =
         let n : Note = record { tag = (carried p.step).tag; body = take (carried p.step).length t.buffer } in
         (rw (delivered-more n, less-is) (omega arith), rw (delivered-more n) (omega (arith, queue.below, queue.above)))
 
-    rooms : (side : Side) (s : Step) (a : Access) → Does side p.counter s a → HasRoom (phase s) (roomIn P S v on side t) → Rooms side s a
+    rooms : (side : Side) (s : Step) (a : Access) → Does side p.counter s a → HasRoom (phase s) (room_in P S v on side t) → Rooms side s a
     rooms side s a (nothing l) h = kept side s a l (refl, refl)
     rooms side s a (looks l) h = kept side s a l (refl, refl)
     rooms side s a (flags l) h = kept side s a l (refl, refl)
@@ -136,17 +136,17 @@ module _ (p : Party) (payload buffer : List ℕ) (t : Trace) where
     rooms side s a wait h = (refl, refl)
     rooms side s a (wake l b m) h = kept side s a l (refl, refl)
 
-    pub room-own-is : (side : Side) (s : Step) → HasRoom (phase s) (roomIn P S v on side t) → roomIn P S v on side (told s side) ≡ ownRoom s (roomIn P S v on side t)
+    pub room-own-is : (side : Side) (s : Step) → HasRoom (phase s) (room_in P S v on side t) → room_in P S v on side (told s side) ≡ own_room s (room_in P S v on side t)
     room-own-is side s h = (rooms side s (next_at s side p.counter) (does side p.counter s) h).0
 
-    pub room-other-is : (side : Side) (s : Step) → HasRoom (phase s) (roomIn P S v on side t) → roomIn P S v on (other side) (told s side) ≡ roomBy s (roomIn P S v on (other side) t)
+    pub room-other-is : (side : Side) (s : Step) → HasRoom (phase s) (room_in P S v on side t) → room_in P S v on (other side) (told s side) ≡ room_by s (room_in P S v on (other side) t)
     room-other-is side s h = (rooms side s (next_at s side p.counter) (does side p.counter s) h).1
 
 -- the flags, at a step that sets none
-pub flags-still : (side : Side) (n f : ℕ) (s : Step) → setsNone s ≡ true → flagsBy (next_at s side n) f ≡ f
+pub flags-still : (side : Side) (n f : ℕ) (s : Step) → sets_none s ≡ true → flags_by (next_at s side n) f ≡ f
 flags-still side n f s h = by s (next_at s side n) (does side n s) h
   where
-    by : (s : Step) (a : Access) → Does side n s a → setsNone s ≡ true → flagsBy a f ≡ f
+    by : (s : Step) (a : Access) → Does side n s a → sets_none s ≡ true → flags_by a f ≡ f
     by s a (nothing l) h = refl
     by s a (looks l) h = refl
     by s a (flags l) h = refl
@@ -161,10 +161,10 @@ flags-still side n f s h = by s (next_at s side n) (does side n s) h
     by s a (wake l b m) h = refl
 
 -- a step that is told by any test from the two that set one
-pub sets-none : (F : Step → Bool) → F CloseSet ≡ false → ((c : Bool) → F (ShutSet c) ≡ false) → (s : Step) → F s ≡ true → setsNone s ≡ true
+pub sets-none : (F : Step → Bool) → F CloseSet ≡ false → ((c : Bool) → F (ShutSet c) ≡ false) → (s : Step) → F s ≡ true → sets_none s ≡ true
 sets-none F x y s h = by s (next_at s Sender 0) (does Sender 0 s) h
   where
-    by : (s : Step) (a : Access) → Does Sender 0 s a → F s ≡ true → setsNo a ≡ true
+    by : (s : Step) (a : Access) → Does Sender 0 s a → F s ≡ true → sets_no a ≡ true
     by s a (nothing l) h = refl
     by s a (looks l) h = refl
     by s a (flags l) h = refl
@@ -178,5 +178,5 @@ sets-none F x y s h = by s (next_at s Sender 0) (does Sender 0 s) h
     by s a wait h = refl
     by s a (wake l b m) h = refl
 
-pub waits-still : (s : Step) → waitsOn s ≡ true → setsNone s ≡ true
-waits-still = sets-none waitsOn refl (λ c. refl)
+pub waits-still : (s : Step) → waits_on s ≡ true → sets_none s ≡ true
+waits-still = sets-none waits_on refl (λ c. refl)

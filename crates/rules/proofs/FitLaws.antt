@@ -11,10 +11,10 @@ use Rattle.types.specs.declared.Side.{Side}
 use Rattle.types.specs.declared.Own.{Own}
 use Rattle.types.specs.declared.SlotHead.{SlotHead}
 use Rattle.types.specs.declared.Fit.TheVariants.{Bad, Small, Fits}
-use Rattle.layout.specs.Limits.{payloadCapacity}
+use Rattle.layout.specs.Limits.{payload_capacity}
 use Rattle.layout.specs.Slots.{head_of}
-use Rattle.rules.specs.Looks.{headBad, fitOf}
-use Rattle.rules.specs.Steps.{fitMove, copyWith, copyMove}
+use Rattle.rules.specs.Looks.{head_bad, fit_of}
+use Rattle.rules.specs.Steps.{fit_move, copy_with, copy_move}
 
 -- one of three tests
 any-true : (a b c : Bool) → (a ≡ true) ⊎ ((b ≡ true) ⊎ (c ≡ true)) → (a || (b || c)) ≡ true
@@ -27,7 +27,7 @@ any-true false false false (inr (inr e)) = e
 
 -- how a header fits, by its fields
 module _ (h : SlotHead) (most named : ℕ) where
-  is-bad : (most < h.length) ⊎ ((1 < h.flags) ⊎ (0 < h.zero)) → headBad h most ≡ true
+  is-bad : (most < h.length) ⊎ ((1 < h.flags) ⊎ (0 < h.zero)) → head_bad h most ≡ true
   is-bad g = any-true (ltb most h.length) (ltb 0 (h.flags / 2)) (ltb 0 h.zero) (by g)
     where
       by : (most < h.length) ⊎ ((1 < h.flags) ⊎ (0 < h.zero)) → (ltb most h.length ≡ true) ⊎ ((ltb 0 (h.flags / 2) ≡ true) ⊎ (ltb 0 h.zero ≡ true))
@@ -35,28 +35,28 @@ module _ (h : SlotHead) (most named : ℕ) where
       by (inr (inl f)) = inr (inl (lt-ltb 0 (h.flags / 2) (omega arith)))
       by (inr (inr z)) = inr (inr (lt-ltb 0 h.zero z))
 
-  pub fit-bad : (most < h.length) ⊎ ((1 < h.flags) ⊎ (0 < h.zero)) → fitOf h most named ≡ Bad
-  unfolding fitOf
+  pub fit-bad : (most < h.length) ⊎ ((1 < h.flags) ⊎ (0 < h.zero)) → fit_of h most named ≡ Bad
+  unfolding fit_of
   fit-bad g = rw (is-bad g)
 
   module _ (l : h.length ≤ most) (f : h.flags ≤ 1) (z : h.zero ≡ 0) where
-    not-bad : headBad h most ≡ false
+    not-bad : head_bad h most ≡ false
     not-bad = rw (le-ltb most h.length l, le-ltb 0 (h.flags / 2) (omega arith), le-ltb 0 h.zero (omega arith))
 
-    pub fit_small : named < h.length → fitOf h most named ≡ Small
-    unfolding fitOf
+    pub fit_small : named < h.length → fit_of h most named ≡ Small
+    unfolding fit_of
     fit_small n = rw (not-bad, lt-ltb named h.length n)
 
-    pub fit_is : h.length ≤ named → fitOf h most named ≡ Fits
-    unfolding fitOf
+    pub fit_is : h.length ≤ named → fit_of h most named ≡ Fits
+    unfolding fit_of
     fit_is n = rw (not-bad, le-ltb named h.length n)
 
 -- and what a good fit says of them
-pub fit-good : (h : SlotHead) (most named : ℕ) → fitOf h most named ≡ Fits → (h.length ≤ most) × (h.length ≤ named)
-unfolding fitOf
-fit-good h most named e = by (ltb most h.length) (headBad h most) (ltb named h.length) refl refl refl e
+pub fit-good : (h : SlotHead) (most named : ℕ) → fit_of h most named ≡ Fits → (h.length ≤ most) × (h.length ≤ named)
+unfolding fit_of
+fit-good h most named e = by (ltb most h.length) (head_bad h most) (ltb named h.length) refl refl refl e
   where
-    by : (l a b : Bool) → ltb most h.length ≡ l → headBad h most ≡ a → ltb named h.length ≡ b → pick a Bad (pick b Small Fits) ≡ Fits → (h.length ≤ most) × (h.length ≤ named)
+    by : (l a b : Bool) → ltb most h.length ≡ l → head_bad h most ≡ a → ltb named h.length ≡ b → pick a Bad (pick b Small Fits) ≡ Fits → (h.length ≤ most) × (h.length ≤ named)
     by l true b p q r e = absurd (let z : ◌≡◌ {A = ℕ} 0 1 = cc in omega arith)
     by l false true p q r e = absurd (let z : ◌≡◌ {A = ℕ} 0 1 = cc in omega arith)
     by true false false p q r e = absurd (let u = rw p at q in let z : ◌≡◌ {A = ℕ} 0 1 = cc in omega arith)
@@ -64,6 +64,6 @@ fit-good h most named e = by (ltb most h.length) (headBad h most) (ltb named h.l
 
 -- a copy of a party whose side is known
 pub copy-by : (own : Own) (named val : ℕ) (σ : Side) → own.side ≡ σ
-    → copyMove own named val ≡ copyWith σ (fitMove (fitOf (head_of val) (payloadCapacity own.slot) named) (head_of val).length (head_of val).tag)
-unfolding copyMove
-copy-by own named val σ z = ap (λ (x : Side). copyWith x (fitMove (fitOf (head_of val) (payloadCapacity own.slot) named) (head_of val).length (head_of val).tag)) z
+    → copy_move own named val ≡ copy_with σ (fit_move (fit_of (head_of val) (payload_capacity own.slot) named) (head_of val).length (head_of val).tag)
+unfolding copy_move
+copy-by own named val σ z = ap (λ (x : Side). copy_with x (fit_move (fit_of (head_of val) (payload_capacity own.slot) named) (head_of val).length (head_of val).tag)) z

@@ -6,7 +6,7 @@ use mathlib.Core.Logic.{◌⊎◌, inl, inr}
 use Prim.Native.Nat.{ℕ, ◌<◌}
 use native.Mathlib.Omega.{arith}
 use lib.Dec.{eqb, leb}
-use Rattle.words.specs.Le.{leAt}
+use Rattle.words.specs.Le.{le_at}
 use Rattle.types.specs.Pick.{pick}
 use Rattle.types.specs.Answers.{number}
 use Rattle.types.specs.declared.Side.{Side}
@@ -22,28 +22,28 @@ use Rattle.types.specs.declared.Event.TheVariants.{Turn, Failing, Spurious, Time
 use Rattle.types.specs.declared.Answer.TheVariants.{GoesOn}
 use Rattle.types.specs.declared.Step.{Step}
 use Rattle.types.specs.declared.Step.TheVariants.{Rest, Look, Copy, Publish, Check, Raise, Wake, Gate, Spin, Epoch, Again, GateAgain, Wait, Asleep, LastLook, CloseSet, CloseRaise, CloseWake, ShutSet, ShutRaiseNe, ShutWakeNe, ShutRaiseNf, ShutWakeNf}
-use Rattle.layout.specs.Limits.{powerOk, slotOk, payloadCapacity}
-use Rattle.layout.specs.Flags.{worth, bitOn, setBit, attachMark, closeMark, reservedFrom}
-use Rattle.layout.specs.Header.{flagsAt}
-use Rattle.layout.specs.Attach.{attachAnswer, attachReply, attachLeaves, attached}
-use Rattle.layout.specs.Create.{created, firstFlags}
-use Rattle.layout.proofs.FlagLaws.{sameMark, mark_set}
+use Rattle.layout.specs.Limits.{power_ok, slot_ok, payload_capacity}
+use Rattle.layout.specs.Flags.{worth, bit_on, set_bit, attach_mark, close_mark, reserved_from}
+use Rattle.layout.specs.Header.{flags_at}
+use Rattle.layout.specs.Attach.{attach_answer, attach_reply, attach_leaves, attached}
+use Rattle.layout.specs.Create.{created, first_flags}
+use Rattle.layout.proofs.FlagLaws.{same_mark, mark_set}
 use Rattle.rules.specs.Sides.{other}
-use Rattle.rules.specs.Take.{stanceOf}
-use Rattle.rules.specs.Next.{nextSpec}
-use Rattle.rules.specs.Calls.{isSleeping, sound, ready, reply, at, named, begins, rouses, pushSpec, popSpec, closeSpec, shutSpec, spuriousSpec, timeoutSpec}
-use Rattle.rules.specs.Turn.{errorOf, wokeOf}
-use Rattle.rules.specs.Bench.{partyOf, seat, settled, played, playedLeaves}
-use Rattle.rules.specs.Run.{World, Happening, attaches, plays, partyIn, takes, happens, run, opened}
+use Rattle.rules.specs.Take.{stance_of}
+use Rattle.rules.specs.Next.{next_spec}
+use Rattle.rules.specs.Calls.{is_sleeping, sound, ready, reply, at, named, begins, rouses, push_spec, pop_spec, close_spec, shut_spec, spurious_spec, timeout_spec}
+use Rattle.rules.specs.Turn.{error_of, woke_of}
+use Rattle.rules.specs.Bench.{party_of, seat, settled, played, played_leaves}
+use Rattle.rules.specs.Run.{World, Happening, attaches, plays, party_in, takes, happens, run, opened}
 use Rattle.rules.specs.Premises.{AllTyped}
 use Rattle.rules.specs.Claims.{Fresh, reached}
-use Rattle.rules.specs.Asked.{begun, asksFor, everAsks}
+use Rattle.rules.specs.Asked.{begun, asks_for, ever_asks}
 use Rattle.rules.specs.Meaning.{ClosedByCall, DownByCall}
 use Rattle.rules.proofs.Does.{Does, does, nothing, looks, flags, reads as epoch, writes, takes as take-slot, stores as store, raises as ring, closes as close, shuts as shut, waits as wait, wakes as wake}
 use Rattle.rules.proofs.Leads.{Sight, Onward, straight, around, Leads, idles, finds, blocks, gives_up, copies, spills, tells, stores, owes, passes, raises, wakes, enters, stops, finds-spin, spins, reads, finds-again, stays, enters-again, stops-again, sleeps as falls-asleep, returns, ends, dreams, glances, glances-again, times-out, finds-last, finds-none, closes, closes-alone, close-raises, close-wakes, shuts, shut-raises, shut-wakes, shut-raises-again, shut-wakes-again}
-use Rattle.rules.proofs.After.{flagsBy}
+use Rattle.rules.proofs.After.{flags_by}
 use Rattle.rules.proofs.Seats.{roused, roused-elim}
-use Rattle.rules.proofs.Taken.{turnWorld, turn-refused}
+use Rattle.rules.proofs.Taken.{turn_world, turn-refused}
 use Rattle.rules.proofs.RealTurn.{both-sides, leads-here, after_turn, turn-is-after}
 use Rattle.rules.proofs.RealCalls.{seat-one, seat-two}
 use Rattle.rules.proofs.RealAttach.{attach-flags}
@@ -51,7 +51,7 @@ use Rattle.rules.proofs.RealRun.{power-fits, slot-fits, real-start, real-happens
 use Rattle.rules.proofs.Listening.{mover-is, waiter-is, flags-left}
 use Rattle.rules.proofs.Real.{Real}
 
-same-worth : (m n : Mark) → eqb (worth m) (worth n) ≡ sameMark m n
+same-worth : (m n : Mark) → eqb (worth m) (worth n) ≡ same_mark m n
 same-worth SenderAttached SenderAttached = refl
 same-worth SenderAttached RecorderAttached = refl
 same-worth SenderAttached SenderClosed = refl
@@ -79,37 +79,37 @@ same-worth ShutMark RecorderClosed = refl
 same-worth ShutMark ShutMark = refl
 
 -- the next turn sets that bit
-abbrev willSet : Mark → Side → Step → Bool
-willSet m side Rest = false
-willSet m side Look = false
-willSet m side Copy = false
-willSet m side (Publish l t) = false
-willSet m side (Check l t) = false
-willSet m side (Raise l t) = false
-willSet m side (Wake l t) = false
-willSet m side Gate = false
-willSet m side (Spin n) = false
-willSet m side Epoch = false
-willSet m side (Again e) = false
-willSet m side (GateAgain e) = false
-willSet m side (Wait e) = false
-willSet m side Asleep = false
-willSet m side (LastLook c) = false
-willSet m side CloseRaise = false
-willSet m side CloseWake = false
-willSet m side (ShutRaiseNe c) = false
-willSet m side (ShutWakeNe c) = false
-willSet m side (ShutRaiseNf c e) = false
-willSet m side (ShutWakeNf c e) = false
-willSet m side CloseSet = sameMark m (closeMark side)
-willSet m side (ShutSet c) = sameMark m ShutMark
+abbrev will_set : Mark → Side → Step → Bool
+will_set m side Rest = false
+will_set m side Look = false
+will_set m side Copy = false
+will_set m side (Publish l t) = false
+will_set m side (Check l t) = false
+will_set m side (Raise l t) = false
+will_set m side (Wake l t) = false
+will_set m side Gate = false
+will_set m side (Spin n) = false
+will_set m side Epoch = false
+will_set m side (Again e) = false
+will_set m side (GateAgain e) = false
+will_set m side (Wait e) = false
+will_set m side Asleep = false
+will_set m side (LastLook c) = false
+will_set m side CloseRaise = false
+will_set m side CloseWake = false
+will_set m side (ShutRaiseNe c) = false
+will_set m side (ShutWakeNe c) = false
+will_set m side (ShutRaiseNf c e) = false
+will_set m side (ShutWakeNf c e) = false
+will_set m side CloseSet = same_mark m (close_mark side)
+will_set m side (ShutSet c) = same_mark m ShutMark
 
-onward-sets : (m : Mark) (side : Side) (n : ℕ) (t : Step) → Onward n t → willSet m side t ≡ false
+onward-sets : (m : Mark) (side : Side) (n : ℕ) (t : Step) → Onward n t → will_set m side t ≡ false
 onward-sets m side n t straight = refl
 onward-sets m side n t (around i) = refl
 
 -- no turn leads to such a step
-sets-on : (m : Mark) (side : Side) (g : Sight) (s n : Step) → Leads g s n → willSet m side n ≡ false
+sets-on : (m : Mark) (side : Side) (g : Sight) (s n : Step) → Leads g s n → will_set m side n ≡ false
 sets-on m side g s n idles = refl
 sets-on m side g s n (finds h) = refl
 sets-on m side g s n (blocks h q) = refl
@@ -151,14 +151,14 @@ sets-on m side g s n shut-raises-again = refl
 sets-on m side g s n shut-wakes-again = refl
 
 -- a bit that is up after a turn was up, or the turn set it
-bit-set : (m n : Mark) (f : ℕ) → f < reservedFrom → bitOn (worth m) (setBit (worth n) f) ≡ true → (bitOn (worth m) f ≡ true) ⊎ (sameMark m n ≡ true)
-bit-set m n f h e = by (sameMark m n) (sym (mark_set n f h m) ∙ e)
+bit-set : (m n : Mark) (f : ℕ) → f < reserved_from → bit_on (worth m) (set_bit (worth n) f) ≡ true → (bit_on (worth m) f ≡ true) ⊎ (same_mark m n ≡ true)
+bit-set m n f h e = by (same_mark m n) (sym (mark_set n f h m) ∙ e)
   where
-    by : (b : Bool) → pick b true (bitOn (worth m) f) ≡ true → (bitOn (worth m) f ≡ true) ⊎ (b ≡ true)
+    by : (b : Bool) → pick b true (bit_on (worth m) f) ≡ true → (bit_on (worth m) f ≡ true) ⊎ (b ≡ true)
     by true e = inr refl
     by false e = inl e
 
-bit-by : (m : Mark) (side : Side) (k : ℕ) (s : Step) (a : Access) (f : ℕ) → f < reservedFrom → Does side k s a → bitOn (worth m) (flagsBy a f) ≡ true → (bitOn (worth m) f ≡ true) ⊎ (willSet m side s ≡ true)
+bit-by : (m : Mark) (side : Side) (k : ℕ) (s : Step) (a : Access) (f : ℕ) → f < reserved_from → Does side k s a → bit_on (worth m) (flags_by a f) ≡ true → (bit_on (worth m) f ≡ true) ⊎ (will_set m side s ≡ true)
 bit-by m side k s a f h (nothing q) e = inl e
 bit-by m side k s a f h (looks q) e = inl e
 bit-by m side k s a f h (flags q) e = inl e
@@ -167,7 +167,7 @@ bit-by m side k s a f h (writes q) e = inl e
 bit-by m side k s a f h (take-slot q) e = inl e
 bit-by m side k s a f h store e = inl e
 bit-by m side k s a f h (ring q b) e = inl e
-bit-by m side k s a f h close e = bit-set m (closeMark side) f h e
+bit-by m side k s a f h close e = bit-set m (close_mark side) f h e
 bit-by m side k s a f h shut e = bit-set m ShutMark f h e
 bit-by m side k s a f h wait e = inl e
 bit-by m side k s a f h (wake q b n) e = inl e
@@ -178,8 +178,8 @@ either f g (inr e) = g e
 
 -- b: such a call was begun
 record Flagged (m : Mark) (b : Bool) (w : World) : Type 0 where
-  bit : bitOn (worth m) (leAt 4 w.region flagsAt) ≡ true → b ≡ true
-  step : (side : Side) → willSet m side (partyIn w side).step ≡ true → b ≡ true
+  bit : bit_on (worth m) (le_at 4 w.region flags_at) ≡ true → b ≡ true
+  step : (side : Side) → will_set m side (party_in w side).step ≡ true → b ≡ true
 
 no : {A : Type 0} → false ≡ true → A
 no e = absurd (let z : ◌≡◌ {A = ℕ} 0 1 = cc in omega arith)
@@ -196,12 +196,12 @@ or-none true = refl
 or-none false = refl
 
 -- a call of a side that changes its step
-called : (m : Mark) (b x : Bool) (w : World) (side : Side) (q : Party) → (willSet m side q.step ≡ true → (b || x) ≡ true) → Flagged m b w
+called : (m : Mark) (b x : Bool) (w : World) (side : Side) (q : Party) → (will_set m side q.step ≡ true → (b || x) ≡ true) → Flagged m b w
     → Flagged m (b || x) (record { region = w.region; bench = seat w.bench side q; trace = w.trace })
 called m b x w side q h y =
     record {
       bit = λ e. or_left b x (y.bit e);
-      step = both-sides side (λ τ. willSet m τ (partyOf (seat w.bench side q) τ).step ≡ true → (b || x) ≡ true)
+      step = both-sides side (λ τ. will_set m τ (party_of (seat w.bench side q) τ).step ≡ true → (b || x) ≡ true)
           (rw (seat-one side w.bench q) h) (rw (seat-two side w.bench q) (λ e. or_left b x (y.step (other side) e)));
     }
 
@@ -227,114 +227,114 @@ plain_step F p true false true n q h f = h
 plain_step F p true false false true q h f = h
 plain_step F p true false false false q h f = f
 
-module _ (P S v : ℕ) (on : Bool) (power-ok : powerOk P ≡ true) (Slot-ok : slotOk S ≡ true) (m : Mark) (parts : (side : Side) → sameMark m (attachMark side) ≡ false) where
-  flagged-turn : (w : World) → Real P S v on w → (b : Bool) → Flagged m b w → (side : Side) (payload lent : List ℕ) (fault : Fault) → Flagged m b (turnWorld w side payload lent fault)
+module _ (P S v : ℕ) (on : Bool) (power-ok : power_ok P ≡ true) (Slot-ok : slot_ok S ≡ true) (m : Mark) (parts : (side : Side) → same_mark m (attach_mark side) ≡ false) where
+  flagged-turn : (w : World) → Real P S v on w → (b : Bool) → Flagged m b w → (side : Side) (payload lent : List ℕ) (fault : Fault) → Flagged m b (turn_world w side payload lent fault)
   flagged-turn w real b y side payload lent fault = by (takes w side payload lent fault) refl
     where
-      by : (x : Bool) → takes w side payload lent fault ≡ x → Flagged m b (turnWorld w side payload lent fault)
+      by : (x : Bool) → takes w side payload lent fault ≡ x → Flagged m b (turn_world w side payload lent fault)
       by false g = subst (Flagged m b) (sym (turn-refused w side payload lent fault g)) y
       by true g =
-          let p = partyIn w side in
-          let q = partyIn w (other side) in
+          let p = party_in w side in
+          let q = party_in w (other side) in
           subst (Flagged m b) (sym (turn-is-after P S v on power-ok Slot-ok w real side payload lent fault g))
           (record {
             bit = λ e. either y.bit (y.step side)
-                (bit-by m side p.counter p.step _ (leAt 4 w.region flagsAt) real.fixed.small (does side p.counter p.step) (sym (ap (bitOn (worth m)) (flags-left P S v on power-ok Slot-ok w real side payload lent fault g)) ∙ e));
-            step = both-sides side (λ τ. willSet m τ (partyIn (after_turn P S v on power-ok Slot-ok w real side payload lent fault g) τ).step ≡ true → b ≡ true)
+                (bit-by m side p.counter p.step _ (le_at 4 w.region flags_at) real.fixed.small (does side p.counter p.step) (sym (ap (bit_on (worth m)) (flags-left P S v on power-ok Slot-ok w real side payload lent fault g)) ∙ e));
+            step = both-sides side (λ τ. will_set m τ (party_in (after_turn P S v on power-ok Slot-ok w real side payload lent fault g) τ).step ≡ true → b ≡ true)
                 (rw (mover-is P S v on power-ok Slot-ok w real side payload lent fault g) (λ e. no (sym (sets-on m side _ _ _ (leads-here P S v on power-ok Slot-ok w real side payload lent fault g)) ∙ e)))
                 (rw (waiter-is P S v on power-ok Slot-ok w real side payload lent fault g)
-                (roused-elim (roused (other side) q (wokeOf (nextSpec p) (errorOf fault))) (λ u. willSet m (other side) u ≡ true → b ≡ true) (y.step (other side)) (λ z e. no e)));
+                (roused-elim (roused (other side) q (woke_of (next_spec p) (error_of fault))) (λ u. will_set m (other side) u ≡ true → b ≡ true) (y.step (other side)) (λ z e. no e)));
           })
 
   flagged-attach : (side : Side) (n : ℕ) (w : World) → Real P S v on w → (b : Bool) → Flagged m b w → Flagged m b (happens (attaches side n) w)
-  unfolding happens attachReply attachLeaves
-  flagged-attach side n w real b y = by (eqb (number (attachAnswer w.region side n)) 0) refl
+  unfolding happens attach_reply attach_leaves
+  flagged-attach side n w real b y = by (eqb (number (attach_answer w.region side n)) 0) refl
     where
-      kept : bitOn (worth m) (setBit (worth (attachMark side)) (leAt 4 w.region flagsAt)) ≡ true → b ≡ true
-      kept e = either y.bit (λ q. no (sym (parts side) ∙ q)) (bit-set m (attachMark side) (leAt 4 w.region flagsAt) real.fixed.small e)
+      kept : bit_on (worth m) (set_bit (worth (attach_mark side)) (le_at 4 w.region flags_at)) ≡ true → b ≡ true
+      kept e = either y.bit (λ q. no (sym (parts side) ∙ q)) (bit-set m (attach_mark side) (le_at 4 w.region flags_at) real.fixed.small e)
 
-      by : (x : Bool) → eqb (number (attachAnswer w.region side n)) 0 ≡ x → Flagged m b (happens (attaches side n) w)
+      by : (x : Bool) → eqb (number (attach_answer w.region side n)) 0 ≡ x → Flagged m b (happens (attaches side n) w)
       by false e = rw e (record { bit = y.bit; step = y.step })
       by true e =
           rw e (record {
-            bit = λ q. kept (sym (ap (bitOn (worth m)) (attach-flags P S v on power-ok Slot-ok w real side)) ∙ q);
-            step = both-sides side (λ τ. willSet m τ (partyOf (seat w.bench side (attached w.region side n)) τ).step ≡ true → b ≡ true)
+            bit = λ q. kept (sym (ap (bit_on (worth m)) (attach-flags P S v on power-ok Slot-ok w real side)) ∙ q);
+            step = both-sides side (λ τ. will_set m τ (party_of (seat w.bench side (attached w.region side n)) τ).step ≡ true → b ≡ true)
                 (rw (seat-one side w.bench (attached w.region side n)) (λ q. no q)) (rw (seat-two side w.bench (attached w.region side n)) (y.step (other side)));
           })
 
-  flagged-happens : (h : Happening) (w : World) → Real P S v on w → (b : Bool) → Flagged m b w → Flagged m (b || asksFor m h w) (happens h w)
-  unfolding happens played playedLeaves settled pushSpec popSpec closeSpec shutSpec spuriousSpec timeoutSpec
+  flagged-happens : (h : Happening) (w : World) → Real P S v on w → (b : Bool) → Flagged m b w → Flagged m (b || asks_for m h w) (happens h w)
+  unfolding happens played played_leaves settled push_spec pop_spec close_spec shut_spec spurious_spec timeout_spec
   flagged-happens (attaches side n) w real b y = rw (or-none b) (flagged-attach side n w real b y)
   flagged-happens (plays (Turn side) i o) w real b y = rw (or-none b) (flagged-turn w real b y side i o Fine)
   flagged-happens (plays (Failing side e) i o) w real b y = rw (or-none b) (flagged-turn w real b y side i o (Error e))
   flagged-happens (plays (Spurious side) i o) w real b y =
-      let p = partyIn w side in
-      called m b false w side _ (roused-step (λ q. willSet m side q.step ≡ true → (b || false) ≡ true) p (sound side p) (isSleeping (stanceOf p.step)) (reply (at Look p) GoesOn) (λ e. or_left b false (y.step side e)) (λ e. no e)) y
+      let p = party_in w side in
+      called m b false w side _ (roused-step (λ q. will_set m side q.step ≡ true → (b || false) ≡ true) p (sound side p) (is_sleeping (stance_of p.step)) (reply (at Look p) GoesOn) (λ e. or_left b false (y.step side e)) (λ e. no e)) y
   flagged-happens (plays (TimeOut side) i o) w real b y =
-      let p = partyIn w side in
-      called m b false w side _ (roused-step (λ q. willSet m side q.step ≡ true → (b || false) ≡ true) p (sound side p) (isSleeping (stanceOf p.step)) (reply (at (LastLook true) p) GoesOn) (λ e. or_left b false (y.step side e)) (λ e. no e)) y
+      let p = party_in w side in
+      called m b false w side _ (roused-step (λ q. will_set m side q.step ≡ true → (b || false) ≡ true) p (sound side p) (is_sleeping (stance_of p.step)) (reply (at (LastLook true) p) GoesOn) (λ e. or_left b false (y.step side e)) (λ e. no e)) y
   flagged-happens (plays (Push blocking tag l) i o) w real b y =
-      let p = partyIn w Sender in
-      called m b false w Sender _ (plain_step (λ q. willSet m Sender q.step ≡ true → (b || false) ≡ true) p (ready Sender p) p.closed (blocking && not p.own.notfull) (not (leb l (payloadCapacity p.own.slot))) (named blocking tag l p) (λ e. or_left b false (y.step Sender e)) (λ e. no e)) y
+      let p = party_in w Sender in
+      called m b false w Sender _ (plain_step (λ q. will_set m Sender q.step ≡ true → (b || false) ≡ true) p (ready Sender p) p.closed (blocking && not p.own.notfull) (not (leb l (payload_capacity p.own.slot))) (named blocking tag l p) (λ e. or_left b false (y.step Sender e)) (λ e. no e)) y
   flagged-happens (plays (Pop blocking l) i o) w real b y =
-      let p = partyIn w Recorder in
-      called m b false w Recorder _ (plain_step (λ q. willSet m Recorder q.step ≡ true → (b || false) ≡ true) p (ready Recorder p) p.closed false false (named blocking 0 l p) (λ e. or_left b false (y.step Recorder e)) (λ e. no e)) y
+      let p = party_in w Recorder in
+      called m b false w Recorder _ (plain_step (λ q. will_set m Recorder q.step ≡ true → (b || false) ≡ true) p (ready Recorder p) p.closed false false (named blocking 0 l p) (λ e. or_left b false (y.step Recorder e)) (λ e. no e)) y
   flagged-happens (plays (Close side) i o) w real b y =
-      let p = partyIn w side in
-      let a = eqb (worth m) (worth (closeMark side)) in
-      called m b _ w side _ (begun-step (λ x q. willSet m side q.step ≡ true → (b || x) ≡ true) p (ready side p) p.closed false false (at CloseSet p) a
-      (λ x e. or_left b x (y.step side e)) (λ e. or_right b (a && true) (and-true a (same-worth m (closeMark side) ∙ e)))) y
+      let p = party_in w side in
+      let a = eqb (worth m) (worth (close_mark side)) in
+      called m b _ w side _ (begun-step (λ x q. will_set m side q.step ≡ true → (b || x) ≡ true) p (ready side p) p.closed false false (at CloseSet p) a
+      (λ x e. or_left b x (y.step side e)) (λ e. or_right b (a && true) (and-true a (same-worth m (close_mark side) ∙ e)))) y
   flagged-happens (plays (Shutdown side) i o) w real b y =
-      let p = partyIn w side in
+      let p = party_in w side in
       let a = eqb (worth m) (worth ShutMark) in
-      called m b _ w side _ (begun-step (λ x q. willSet m side q.step ≡ true → (b || x) ≡ true) p (ready side p) false false false (at (ShutSet false) p) a
+      called m b _ w side _ (begun-step (λ x q. will_set m side q.step ≡ true → (b || x) ≡ true) p (ready side p) false false false (at (ShutSet false) p) a
       (λ x e. or_left b x (y.step side e)) (λ e. or_right b (a && true) (and-true a (same-worth m ShutMark ∙ e)))) y
 
   or_assoc : (a b c : Bool) → ((a || b) || c) ≡ (a || (b || c))
   or_assoc true b c = refl
   or_assoc false b c = refl
 
-  flagged-run : (hs : List Happening) (w : World) → AllTyped hs → Real P S v on w → (b : Bool) → Flagged m b w → Flagged m (b || everAsks m hs w) (run hs w)
+  flagged-run : (hs : List Happening) (w : World) → AllTyped hs → Real P S v on w → (b : Bool) → Flagged m b w → Flagged m (b || ever_asks m hs w) (run hs w)
   unfolding run
   flagged-run [] w t real b y = rw (or-none b) y
   flagged-run (h ∷ hs) w t real b y =
-      subst (λ (x : Bool). Flagged m x (run hs (happens h w))) (or_assoc b (asksFor m h w) (everAsks m hs (happens h w)))
-      (flagged-run hs (happens h w) t.1 (real-happens P S v on power-ok Slot-ok h w t.0 real) (b || asksFor m h w) (flagged-happens h w real b y))
+      subst (λ (x : Bool). Flagged m x (run hs (happens h w))) (or_assoc b (asks_for m h w) (ever_asks m hs (happens h w)))
+      (flagged-run hs (happens h w) t.1 (real-happens P S v on power-ok Slot-ok h w t.0 real) (b || asks_for m h w) (flagged-happens h w real b y))
 
 module _ (r : List ℕ) (P S : ℕ) (on : Bool) (v : ℕ) (fresh : Fresh r P S on v) where
-  flagged-start : (m : Mark) → ((on : Bool) → bitOn (worth m) (firstFlags on) ≡ false) → Flagged m false (opened (created r P S on v))
+  flagged-start : (m : Mark) → ((on : Bool) → bit_on (worth m) (first_flags on) ≡ false) → Flagged m false (opened (created r P S on v))
   flagged-start m f =
       record {
-        bit = λ e. no (sym (ap (bitOn (worth m)) (flags-are r P S on v fresh) ∙ f on) ∙ e);
-        step = both-sides Sender (λ τ. willSet m τ (partyIn (opened (created r P S on v)) τ).step ≡ true → ◌≡◌ {A = Bool} false true) (λ e. no e) (λ e. no e);
+        bit = λ e. no (sym (ap (bit_on (worth m)) (flags-are r P S on v fresh) ∙ f on) ∙ e);
+        step = both-sides Sender (λ τ. will_set m τ (party_in (opened (created r P S on v)) τ).step ≡ true → ◌≡◌ {A = Bool} false true) (λ e. no e) (λ e. no e);
       }
 
-  ever : (m : Mark) → ((side : Side) → sameMark m (attachMark side) ≡ false) → ((on : Bool) → bitOn (worth m) (firstFlags on) ≡ false) → (hs : List Happening) → AllTyped hs
-      → bitOn (worth m) (leAt 4 (reached r P S on v hs).region flagsAt) ≡ true → everAsks m hs (opened (created r P S on v)) ≡ true
+  ever : (m : Mark) → ((side : Side) → same_mark m (attach_mark side) ≡ false) → ((on : Bool) → bit_on (worth m) (first_flags on) ≡ false) → (hs : List Happening) → AllTyped hs
+      → bit_on (worth m) (le_at 4 (reached r P S on v hs).region flags_at) ≡ true → ever_asks m hs (opened (created r P S on v)) ≡ true
   ever m parts f hs t = (flagged-run P S v on (power-fits r P S on v fresh) (slot-fits r P S on v fresh) m parts hs (opened (created r P S on v)) t (real-start r P S on v fresh) false (flagged-start m f)).bit
 
-  close-parts : (σ side : Side) → sameMark (closeMark σ) (attachMark side) ≡ false
+  close-parts : (σ side : Side) → same_mark (close_mark σ) (attach_mark side) ≡ false
   close-parts Sender Sender = refl
   close-parts Sender Recorder = refl
   close-parts Recorder Sender = refl
   close-parts Recorder Recorder = refl
 
-  close-fresh : (σ : Side) (on : Bool) → bitOn (worth (closeMark σ)) (firstFlags on) ≡ false
+  close-fresh : (σ : Side) (on : Bool) → bit_on (worth (close_mark σ)) (first_flags on) ≡ false
   close-fresh Sender true = refl
   close-fresh Sender false = refl
   close-fresh Recorder true = refl
   close-fresh Recorder false = refl
 
-  shut-parts : (side : Side) → sameMark ShutMark (attachMark side) ≡ false
+  shut-parts : (side : Side) → same_mark ShutMark (attach_mark side) ≡ false
   shut-parts Sender = refl
   shut-parts Recorder = refl
 
-  shut-fresh : (on : Bool) → bitOn (worth ShutMark) (firstFlags on) ≡ false
+  shut-fresh : (on : Bool) → bit_on (worth ShutMark) (first_flags on) ≡ false
   shut-fresh true = refl
   shut-fresh false = refl
 
   pub closed-by-call : (side : Side) → ClosedByCall r P S on v side
-  closed-by-call side hs t = ever (closeMark side) (close-parts side) (close-fresh side) hs t
+  closed-by-call side hs t = ever (close_mark side) (close-parts side) (close-fresh side) hs t
 
   pub down-by-call : DownByCall r P S on v
   down-by-call hs t = ever ShutMark shut-parts shut-fresh hs t

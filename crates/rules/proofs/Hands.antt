@@ -17,18 +17,18 @@ use Rattle.types.specs.declared.Stance.{Stance}
 use Rattle.types.specs.declared.Stance.TheVariants.{Resting, Sleeping, Copying, Publishing, Closing, Moving}
 use Rattle.types.specs.declared.Access.{Access}
 use Rattle.types.specs.declared.Access.TheVariants.{StoreCounter}
-use Rattle.layout.specs.Limits.{slotHeadBytes, powerOk, slotOk, capacity}
+use Rattle.layout.specs.Limits.{slot_head_bytes, power_ok, slot_ok, capacity}
 use Rattle.rules.specs.Sides.{other}
-use Rattle.rules.specs.Take.{stanceOf}
+use Rattle.rules.specs.Take.{stance_of}
 use Rattle.rules.specs.Next.{next_at}
-use Rattle.rules.specs.Access.{leavesOf}
+use Rattle.rules.specs.Access.{leaves_of}
 use Rattle.rules.specs.Run.{Note, Trace, Carried, published, carried, traced}
 use Rattle.rules.specs.Phase.{Phase, resting, looking, copying, publishing, telling, asking, armed, poised, waits, sleeps as asleep, glancing, leaving, phase}
 use Rattle.rules.proofs.Effects.{room-other-is}
-use Rattle.rules.proofs.Does.{otherAfter, Does, nothing, looks, flags, reads as epoch, writes, takes, stores as store, raises as ring, closes as close, shuts as shut, waits as wait, wakes as wake}
+use Rattle.rules.proofs.Does.{other_after, Does, nothing, looks, flags, reads as epoch, writes, takes, stores as store, raises as ring, closes as close, shuts as shut, waits as wait, wakes as wake}
 use Rattle.rules.proofs.Leads.{Sight, asks, Leads, idles, finds, blocks, gives_up, copies, spills, tells, stores, owes, passes, raises, wakes, enters, stops, finds-spin, spins, reads, finds-again, stays, enters-again, stops-again, sleeps, returns, ends, dreams, glances, glances-again, times-out, finds-last, finds-none, closes, closes-alone, close-raises, close-wakes, shuts, shut-raises, shut-wakes, shut-raises-again, shut-wakes-again}
 use Rattle.rules.proofs.Ring.{holds_kept, written-elsewhere, queue-still, queue-quiet, queue-sent, queue-got}
-use Rattle.rules.proofs.Real.{count_of, HasRoom, sizes, roomIn, nth, blank, HoldsAt, InHand, Fixed, Queue, has_more, free}
+use Rattle.rules.proofs.Real.{count_of, HasRoom, sizes, room_in, nth, blank, HoldsAt, InHand, Fixed, Queue, has_more, free}
 
 module _ (P S v : ℕ) (on : Bool) where
   pub in-hand-none : (side : Side) (ph : Phase) (r : List ℕ) (t : Trace) → T (free ph) → InHand P S v on side ph r t
@@ -57,23 +57,23 @@ module _ (P S v : ℕ) (on : Bool) where
   in-hand-none Recorder glancing r t h = tt
   in-hand-none Recorder leaving r t h = tt
 
-module _ (P S v : ℕ) (on : Bool) (power-ok : powerOk P ≡ true) (Slot-ok : slotOk S ≡ true) (r : List ℕ) (p : Party) (payload : List ℕ) (fixed : Fixed P S v on r)
+module _ (P S v : ℕ) (on : Bool) (power-ok : power_ok P ≡ true) (Slot-ok : slot_ok S ≡ true) (r : List ℕ) (p : Party) (payload : List ℕ) (fixed : Fixed P S v on r)
     (t : Trace) (buffer : List ℕ) (queue : Queue P S v on r t) where
   abbrev left : Access → List ℕ
-  left a = leavesOf r p.own a p.tag payload
+  left a = leaves_of r p.own a p.tag payload
 
   abbrev told : Access → Trace
   told a = traced a p payload buffer t
 
   -- at a push's copy the payload fits the slot
   abbrev pub Fits : Side → Step → Type 0
-  Fits side s = side ≡ Sender → s ≡ Copy → slotHeadBytes + length payload ≤ S
+  Fits side s = side ≡ Sender → s ≡ Copy → slot_head_bytes + length payload ≤ S
 
-  sender-room : 0 < roomIn P S v on Sender t → length t.sent < length t.delivered + capacity P
+  sender-room : 0 < room_in P S v on Sender t → length t.sent < length t.delivered + capacity P
   sender-room h = omega (arith, queue.below)
 
   pub queue-kept : (side : Side) (s : Step) (a : Access) → p.step ≡ s → p.own ≡ sizes P S v on side p.own.spins → p.counter ≡ plus 64 v (count_of side t) → Does side p.counter s a
-      → Fits side s → HasRoom (phase s) (roomIn P S v on side t) → InHand P S v on side (phase s) r t → Queue P S v on (left a) (told a)
+      → Fits side s → HasRoom (phase s) (room_in P S v on side t) → InHand P S v on side (phase s) r t → Queue P S v on (left a) (told a)
   queue-kept side s a at o c (nothing q) f h x = queue-quiet P S v on power-ok Slot-ok r p payload fixed t buffer queue a (λ i. tt) refl refl
   queue-kept side s a at o c (looks q) f h x = queue-quiet P S v on power-ok Slot-ok r p payload fixed t buffer queue a (λ i. tt) refl refl
   queue-kept side s a at o c (flags q) f h x = queue-quiet P S v on power-ok Slot-ok r p payload fixed t buffer queue a (λ i. tt) refl refl
@@ -97,11 +97,11 @@ module _ (P S v : ℕ) (on : Bool) (power-ok : powerOk P ≡ true) (Slot-ok : sl
   queue-kept side s a at o c (wake q b m) f h x = queue-quiet P S v on power-ok Slot-ok r p payload fixed t buffer queue a (λ i. tt) refl refl
 
   -- the other's room is at least what it was
-  pub room-other : (side : Side) (s : Step) (ph : Phase) → HasRoom (phase s) (roomIn P S v on side t) → HasRoom ph (roomIn P S v on (other side) t)
-      → HasRoom ph (roomIn P S v on (other side) (told (next_at s side p.counter)))
-  room-other side s ph y h = rw (room-other-is p payload buffer t P S v on r queue side s y) (has_more ph _ _ (more (stanceOf s) (roomIn P S v on (other side) t)) h)
+  pub room-other : (side : Side) (s : Step) (ph : Phase) → HasRoom (phase s) (room_in P S v on side t) → HasRoom ph (room_in P S v on (other side) t)
+      → HasRoom ph (room_in P S v on (other side) (told (next_at s side p.counter)))
+  room-other side s ph y h = rw (room-other-is p payload buffer t P S v on r queue side s y) (has_more ph _ _ (more (stance_of s) (room_in P S v on (other side) t)) h)
     where
-      more : (u : Stance) (k : ℕ) → k ≤ otherAfter u k
+      more : (u : Stance) (k : ℕ) → k ≤ other_after u k
       more Resting k = omega arith
       more Sleeping k = omega arith
       more Copying k = omega arith
@@ -109,12 +109,12 @@ module _ (P S v : ℕ) (on : Bool) (power-ok : powerOk P ≡ true) (Slot-ok : sl
       more Closing k = omega arith
       more Moving k = omega arith
 
-  copy-room : (side : Side) → roomIn P S v on side (told (next_at Copy side p.counter)) ≡ roomIn P S v on side t
+  copy-room : (side : Side) → room_in P S v on side (told (next_at Copy side p.counter)) ≡ room_in P S v on side t
   copy-room Sender = refl
   copy-room Recorder = refl
 
-  pub room-own : (side : Side) (g : Sight) → g.room ≡ roomIn P S v on side t → (s next : Step) → Leads g s next → HasRoom (phase s) (roomIn P S v on side t)
-      → HasRoom (phase next) (roomIn P S v on side (told (next_at s side p.counter)))
+  pub room-own : (side : Side) (g : Sight) → g.room ≡ room_in P S v on side t → (s next : Step) → Leads g s next → HasRoom (phase s) (room_in P S v on side t)
+      → HasRoom (phase next) (room_in P S v on side (told (next_at s side p.counter)))
   room-own side g at s next idles y = tt
   room-own side g at s next (finds h) y = rw (sym at) h
   room-own side g at s next (blocks h q) y = tt
@@ -253,7 +253,7 @@ module _ (P S v : ℕ) (on : Bool) (power-ok : powerOk P ≡ true) (Slot-ok : sl
   recorder-keeps s a wait = record { sent = refl; hand = refl; slots = λ i n. holds_kept P S v on power-ok Slot-ok r p payload fixed i n a tt }
   recorder-keeps s a (wake q b m) = record { sent = refl; hand = refl; slots = λ i n. holds_kept P S v on power-ok Slot-ok r p payload fixed i n a tt }
 
-  recorder-hand : (u : Trace) → SenderKeeps u → (ph : Phase) → HasRoom ph (roomIn P S v on Recorder t) → InHand P S v on Recorder ph r t → (r' : List ℕ) → InHand P S v on Recorder ph r' u
+  recorder-hand : (u : Trace) → SenderKeeps u → (ph : Phase) → HasRoom ph (room_in P S v on Recorder t) → InHand P S v on Recorder ph r t → (r' : List ℕ) → InHand P S v on Recorder ph r' u
   recorder-hand u k resting h y r' = tt
   recorder-hand u k looking h y r' = tt
   recorder-hand u k copying h y r' = tt
@@ -283,6 +283,6 @@ module _ (P S v : ℕ) (on : Bool) (power-ok : powerOk P ≡ true) (Slot-ok : sl
 
   -- what the other has in hand
   pub hand-other : (side : Side) (s : Step) (a : Access) (ph : Phase) → Does side p.counter s a
-      → HasRoom ph (roomIn P S v on (other side) t) → InHand P S v on (other side) ph r t → InHand P S v on (other side) ph (left a) (told a)
+      → HasRoom ph (room_in P S v on (other side) t) → InHand P S v on (other side) ph r t → InHand P S v on (other side) ph (left a) (told a)
   hand-other Sender s a ph d h y = recorder-hand (told a) (sender-keeps s a d) ph h y (left a)
   hand-other Recorder s a ph d h y = sender-hand a (recorder-keeps s a d) ph y

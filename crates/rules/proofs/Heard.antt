@@ -11,8 +11,8 @@ use Rattle.types.specs.declared.Access.{Access}
 use Rattle.types.specs.declared.Access.TheVariants.{None, LoadCounter, LoadFlags, LoadBell, WriteSlot, ReadSlot, StoreCounter, RaiseBell, SetFlag, WaitBell, WakeBell}
 use Rattle.rules.specs.Next.{next_at}
 use Rattle.rules.specs.Phase.{Phase, resting, looking, copying, publishing, telling, asking, armed, poised, waits, sleeps, glancing, leaving}
-use Rattle.rules.specs.Take.{stanceOf}
-use Rattle.rules.proofs.Does.{otherAfter}
+use Rattle.rules.specs.Take.{stance_of}
+use Rattle.rules.proofs.Does.{other_after}
 use Rattle.rules.proofs.Leads.{Sight, Onward, straight, around, Leads, idles, finds, blocks, gives_up, copies, spills, tells, stores, owes, passes, raises, wakes, enters, stops, finds-spin, spins, reads, finds-again, stays, enters-again, stops-again, returns, ends, dreams, glances, glances-again, times-out, finds-last, finds-none, closes, closes-alone, close-raises, close-wakes, shuts, shut-raises, shut-wakes, shut-raises-again, shut-wakes-again, sleeps as falls-asleep}
 
 -- a party with room, or that should stop, has cause not to sleep
@@ -26,9 +26,9 @@ pub data Duty : Type 0 where
   none checking raising waking : Duty
 
 -- NE is the recorder's bell, NF the sender's
-abbrev pub ifSender : {A : Type 0} → Side → A → A → A
-ifSender Sender a b = a
-ifSender Recorder a b = b
+abbrev pub if_sender : {A : Type 0} → Side → A → A → A
+if_sender Sender a b = a
+if_sender Recorder a b = b
 
 abbrev pub duty : Side → Step → Duty
 duty side Rest = none
@@ -51,9 +51,9 @@ duty side CloseRaise = raising
 duty side CloseWake = waking
 duty side (ShutSet c) = none
 duty side (ShutRaiseNe c) = raising
-duty side (ShutWakeNe c) = ifSender side waking raising
-duty side (ShutRaiseNf c f) = ifSender side none raising
-duty side (ShutWakeNf c f) = ifSender side none waking
+duty side (ShutWakeNe c) = if_sender side waking raising
+duty side (ShutRaiseNf c f) = if_sender side none raising
+duty side (ShutWakeNf c f) = if_sender side none waking
 
 owes-none : (side : Side) (n : ℕ) (t : Step) → Onward n t → duty side t ≡ none
 owes-none side n t straight = refl
@@ -176,81 +176,81 @@ landed-good true glancing n k z h x = tt
 landed-good true leaving n k z h x = tt
 
 -- what a turn of the mover at a step does to the other: raises of its bell, its room, and a wake for it
-abbrev pub rungBy : Side → Step → ℕ → ℕ
-rungBy side Rest n = n
-rungBy side Look n = n
-rungBy side Copy n = n
-rungBy side (Publish l g) n = n
-rungBy side (Check l g) n = n
-rungBy side (Raise l g) n = n + 1
-rungBy side (Wake l g) n = n
-rungBy side Gate n = n
-rungBy side (Spin i) n = n
-rungBy side Epoch n = n
-rungBy side (Again e) n = n
-rungBy side (GateAgain e) n = n
-rungBy side (Wait e) n = n
-rungBy side Asleep n = n
-rungBy side (LastLook c) n = n
-rungBy side CloseSet n = n
-rungBy side CloseRaise n = n + 1
-rungBy side CloseWake n = n
-rungBy side (ShutSet c) n = n
-rungBy side (ShutRaiseNe c) n = ifSender side (n + 1) n
-rungBy side (ShutWakeNe c) n = n
-rungBy side (ShutRaiseNf c f) n = ifSender side n (n + 1)
-rungBy side (ShutWakeNf c f) n = n
+abbrev pub rung_by : Side → Step → ℕ → ℕ
+rung_by side Rest n = n
+rung_by side Look n = n
+rung_by side Copy n = n
+rung_by side (Publish l g) n = n
+rung_by side (Check l g) n = n
+rung_by side (Raise l g) n = n + 1
+rung_by side (Wake l g) n = n
+rung_by side Gate n = n
+rung_by side (Spin i) n = n
+rung_by side Epoch n = n
+rung_by side (Again e) n = n
+rung_by side (GateAgain e) n = n
+rung_by side (Wait e) n = n
+rung_by side Asleep n = n
+rung_by side (LastLook c) n = n
+rung_by side CloseSet n = n
+rung_by side CloseRaise n = n + 1
+rung_by side CloseWake n = n
+rung_by side (ShutSet c) n = n
+rung_by side (ShutRaiseNe c) n = if_sender side (n + 1) n
+rung_by side (ShutWakeNe c) n = n
+rung_by side (ShutRaiseNf c f) n = if_sender side n (n + 1)
+rung_by side (ShutWakeNf c f) n = n
 
-abbrev pub roomBy : Step → ℕ → ℕ
-roomBy s k = otherAfter (stanceOf s) k
+abbrev pub room_by : Step → ℕ → ℕ
+room_by s k = other_after (stance_of s) k
 
-abbrev pub wakesAt : Side → Step → Bool
-wakesAt side Rest = false
-wakesAt side Look = false
-wakesAt side Copy = false
-wakesAt side (Publish l g) = false
-wakesAt side (Check l g) = false
-wakesAt side (Raise l g) = false
-wakesAt side (Wake l g) = true
-wakesAt side Gate = false
-wakesAt side (Spin n) = false
-wakesAt side Epoch = false
-wakesAt side (Again e) = false
-wakesAt side (GateAgain e) = false
-wakesAt side (Wait e) = false
-wakesAt side Asleep = false
-wakesAt side (LastLook c) = false
-wakesAt side CloseSet = false
-wakesAt side CloseRaise = false
-wakesAt side CloseWake = true
-wakesAt side (ShutSet c) = false
-wakesAt side (ShutRaiseNe c) = false
-wakesAt side (ShutWakeNe c) = ifSender side true false
-wakesAt side (ShutRaiseNf c f) = false
-wakesAt side (ShutWakeNf c f) = ifSender side false true
+abbrev pub wakes_at : Side → Step → Bool
+wakes_at side Rest = false
+wakes_at side Look = false
+wakes_at side Copy = false
+wakes_at side (Publish l g) = false
+wakes_at side (Check l g) = false
+wakes_at side (Raise l g) = false
+wakes_at side (Wake l g) = true
+wakes_at side Gate = false
+wakes_at side (Spin n) = false
+wakes_at side Epoch = false
+wakes_at side (Again e) = false
+wakes_at side (GateAgain e) = false
+wakes_at side (Wait e) = false
+wakes_at side Asleep = false
+wakes_at side (LastLook c) = false
+wakes_at side CloseSet = false
+wakes_at side CloseRaise = false
+wakes_at side CloseWake = true
+wakes_at side (ShutSet c) = false
+wakes_at side (ShutRaiseNe c) = false
+wakes_at side (ShutWakeNe c) = if_sender side true false
+wakes_at side (ShutRaiseNf c f) = false
+wakes_at side (ShutWakeNf c f) = if_sender side false true
 
 -- a step that sets no flag: of no side, by its access
-abbrev pub setsNo : Access → Bool
-setsNo None = true
-setsNo (LoadCounter side) = true
-setsNo LoadFlags = true
-setsNo (LoadBell b) = true
-setsNo (WriteSlot n) = true
-setsNo (ReadSlot n) = true
-setsNo (StoreCounter side n) = true
-setsNo (RaiseBell b) = true
-setsNo (SetFlag m) = false
-setsNo (WaitBell b e) = true
-setsNo (WakeBell b n) = true
+abbrev pub sets_no : Access → Bool
+sets_no None = true
+sets_no (LoadCounter side) = true
+sets_no LoadFlags = true
+sets_no (LoadBell b) = true
+sets_no (WriteSlot n) = true
+sets_no (ReadSlot n) = true
+sets_no (StoreCounter side n) = true
+sets_no (RaiseBell b) = true
+sets_no (SetFlag m) = false
+sets_no (WaitBell b e) = true
+sets_no (WakeBell b n) = true
 
-abbrev pub setsNone : Step → Bool
-setsNone s = setsNo (next_at s Sender 0)
+abbrev pub sets_none : Step → Bool
+sets_none s = sets_no (next_at s Sender 0)
 
 -- a turn of the other's keeps what the waiter relies on. x is the waiter's room as the mover checks it, ok whether no failure
 -- was announced
 pub theirs : (side : Side) (g : Sight) (s next : Step) → Leads g s next → g.rings ≡ true → (ok : Bool) (ph : Phase) (n : ℕ) (z z' : Bool)
-    → (setsNone s ≡ true → z' ≡ z) → (wakesAt side s ≡ true → ph ≡ sleeps → ok ≡ true)
-    → Good ph n g.theirs z (duty side s) → Good (risen (wakesAt side s && ok) ph) (rungBy side s n) (roomBy s g.theirs) z' (duty side next)
+    → (sets_none s ≡ true → z' ≡ z) → (wakes_at side s ≡ true → ph ≡ sleeps → ok ≡ true)
+    → Good ph n g.theirs z (duty side s) → Good (risen (wakes_at side s && ok) ph) (rung_by side s n) (room_by s g.theirs) z' (duty side next)
 theirs side g s next idles t ok ph n z z' f l y = rw (f refl) y
 theirs side g s next (finds h) t ok ph n z z' f l y = rw (f refl) (calm ph n g.theirs z _ y)
 theirs side g s next (blocks h q) t ok ph n z z' f l y = rw (f refl) (calm ph n g.theirs z _ y)

@@ -5,7 +5,7 @@ use mathlib.Core.List.{List, [], ◌∷◌, ◌++◌}
 use Prim.Native.Nat.{ℕ, ◌+◌, ◌-◌, ◌<◌, ◌≤◌}
 use native.Mathlib.Omega.{arith}
 use lib.ListN.{length, length-append}
-use Rattle.words.specs.Le.{leAt}
+use Rattle.words.specs.Le.{le_at}
 use Rattle.words.specs.Wrap.{plus}
 use Rattle.words.proofs.Wrapped.{plus-lt, plus-plus}
 use Rattle.types.specs.Pick.{pick}
@@ -18,55 +18,55 @@ use Rattle.types.specs.declared.Party.{Party}
 use Rattle.types.specs.declared.Step.{Step}
 use Rattle.types.specs.declared.Access.{Access}
 use Rattle.types.specs.declared.Access.TheVariants.{None, LoadCounter, LoadFlags, LoadBell, WriteSlot, ReadSlot, StoreCounter, RaiseBell, SetFlag, WaitBell, WakeBell}
-use Rattle.layout.specs.Limits.{headerBytes, totalBytes}
-use Rattle.layout.specs.Flags.{worth, notFullOn, reservedFrom, bitOn, setBit, attachMark, closeMark}
-use Rattle.layout.specs.Header.{flagsAt, counterAt}
-use Rattle.layout.proofs.FlagLaws.{sameMark, mark_set, option-kept, flags-small}
+use Rattle.layout.specs.Limits.{header_bytes, total_bytes}
+use Rattle.layout.specs.Flags.{worth, not_full_on, reserved_from, bit_on, set_bit, attach_mark, close_mark}
+use Rattle.layout.specs.Header.{flags_at, counter_at}
+use Rattle.layout.proofs.FlagLaws.{same_mark, mark_set, option-kept, flags-small}
 use Rattle.rules.specs.Sides.{other}
-use Rattle.rules.specs.Take.{stanceOf, counterAfter, closedAfter}
-use Rattle.rules.specs.Access.{leavesOf}
+use Rattle.rules.specs.Take.{stance_of, counter_after, closed_after}
+use Rattle.rules.specs.Access.{leaves_of}
 use Rattle.rules.specs.Run.{Trace, traced}
-use Rattle.rules.proofs.After.{flagsBy, power-after, slot-size-after, flags-after, counter-after}
+use Rattle.rules.proofs.After.{flags_by, power-after, slot-size-after, flags-after, counter-after}
 use Rattle.rules.proofs.Frames.{length-leaves}
 use Rattle.rules.proofs.Does.{Does, nothing, looks, flags, reads, writes, takes, stores, raises, closes, shuts, waits, wakes}
 use Rattle.rules.proofs.Real.{count_of, Fixed}
 
 -- the flags after an access: still without reserved bits, and the option as it was
-flagsBy-small : (a : Access) (f : ℕ) → f < reservedFrom → flagsBy a f < reservedFrom
-flagsBy-small None f h = h
-flagsBy-small (LoadCounter s) f h = h
-flagsBy-small LoadFlags f h = h
-flagsBy-small (LoadBell b) f h = h
-flagsBy-small (WriteSlot n) f h = h
-flagsBy-small (ReadSlot n) f h = h
-flagsBy-small (StoreCounter s n) f h = h
-flagsBy-small (RaiseBell b) f h = h
-flagsBy-small (SetFlag m) f h = flags-small m f h
-flagsBy-small (WaitBell b e) f h = h
-flagsBy-small (WakeBell b n) f h = h
+flags_by-small : (a : Access) (f : ℕ) → f < reserved_from → flags_by a f < reserved_from
+flags_by-small None f h = h
+flags_by-small (LoadCounter s) f h = h
+flags_by-small LoadFlags f h = h
+flags_by-small (LoadBell b) f h = h
+flags_by-small (WriteSlot n) f h = h
+flags_by-small (ReadSlot n) f h = h
+flags_by-small (StoreCounter s n) f h = h
+flags_by-small (RaiseBell b) f h = h
+flags_by-small (SetFlag m) f h = flags-small m f h
+flags_by-small (WaitBell b e) f h = h
+flags_by-small (WakeBell b n) f h = h
 
-flagsBy-option : (a : Access) (f : ℕ) → f < reservedFrom → bitOn notFullOn (flagsBy a f) ≡ bitOn notFullOn f
-flagsBy-option None f h = refl
-flagsBy-option (LoadCounter s) f h = refl
-flagsBy-option LoadFlags f h = refl
-flagsBy-option (LoadBell b) f h = refl
-flagsBy-option (WriteSlot n) f h = refl
-flagsBy-option (ReadSlot n) f h = refl
-flagsBy-option (StoreCounter s n) f h = refl
-flagsBy-option (RaiseBell b) f h = refl
-flagsBy-option (SetFlag m) f h = option-kept m f h
-flagsBy-option (WaitBell b e) f h = refl
-flagsBy-option (WakeBell b n) f h = refl
+flags_by-option : (a : Access) (f : ℕ) → f < reserved_from → bit_on not_full_on (flags_by a f) ≡ bit_on not_full_on f
+flags_by-option None f h = refl
+flags_by-option (LoadCounter s) f h = refl
+flags_by-option LoadFlags f h = refl
+flags_by-option (LoadBell b) f h = refl
+flags_by-option (WriteSlot n) f h = refl
+flags_by-option (ReadSlot n) f h = refl
+flags_by-option (StoreCounter s n) f h = refl
+flags_by-option (RaiseBell b) f h = refl
+flags_by-option (SetFlag m) f h = option-kept m f h
+flags_by-option (WaitBell b e) f h = refl
+flags_by-option (WakeBell b n) f h = refl
 
 -- a flag that is up stays up
-pub mark-up : (n : Mark) (f : ℕ) → f < reservedFrom → (m : Mark) → bitOn (worth m) f ≡ true → bitOn (worth m) (setBit (worth n) f) ≡ true
-mark-up n f h m e = mark_set n f h m ∙ by (sameMark m n)
+pub mark-up : (n : Mark) (f : ℕ) → f < reserved_from → (m : Mark) → bit_on (worth m) f ≡ true → bit_on (worth m) (set_bit (worth n) f) ≡ true
+mark-up n f h m e = mark_set n f h m ∙ by (same_mark m n)
   where
-    by : (b : Bool) → pick b true (bitOn (worth m) f) ≡ true
+    by : (b : Bool) → pick b true (bit_on (worth m) f) ≡ true
     by true = refl
     by false = e
 
-pub flag_up : (a : Access) (f : ℕ) → f < reservedFrom → (m : Mark) → bitOn (worth m) f ≡ true → bitOn (worth m) (flagsBy a f) ≡ true
+pub flag_up : (a : Access) (f : ℕ) → f < reserved_from → (m : Mark) → bit_on (worth m) f ≡ true → bit_on (worth m) (flags_by a f) ≡ true
 flag_up None f h m e = e
 flag_up (LoadCounter s) f h m e = e
 flag_up LoadFlags f h m e = e
@@ -80,7 +80,7 @@ flag_up (WaitBell b n) f h m e = e
 flag_up (WakeBell b n) f h m e = e
 
 -- the attach bits never change in a turn; a close bit changes for the one that closes
-pub attach-bit : (side mover : Side) (n : ℕ) (s : Step) (a : Access) (f : ℕ) → f < reservedFrom → Does mover n s a → bitOn (worth (attachMark side)) (flagsBy a f) ≡ bitOn (worth (attachMark side)) f
+pub attach-bit : (side mover : Side) (n : ℕ) (s : Step) (a : Access) (f : ℕ) → f < reserved_from → Does mover n s a → bit_on (worth (attach_mark side)) (flags_by a f) ≡ bit_on (worth (attach_mark side)) f
 attach-bit side mover n s a f h (nothing q) = refl
 attach-bit side mover n s a f h (looks q) = refl
 attach-bit side mover n s a f h (flags q) = refl
@@ -89,16 +89,16 @@ attach-bit side mover n s a f h (writes q) = refl
 attach-bit side mover n s a f h (takes q) = refl
 attach-bit side mover n s a f h stores = refl
 attach-bit side mover n s a f h (raises q b) = refl
-attach-bit Sender Sender n s a f h closes = mark_set SenderClosed f h (attachMark Sender)
-attach-bit Sender Recorder n s a f h closes = mark_set RecorderClosed f h (attachMark Sender)
-attach-bit Recorder Sender n s a f h closes = mark_set SenderClosed f h (attachMark Recorder)
-attach-bit Recorder Recorder n s a f h closes = mark_set RecorderClosed f h (attachMark Recorder)
-attach-bit Sender mover n s a f h shuts = mark_set Shutdown f h (attachMark Sender)
-attach-bit Recorder mover n s a f h shuts = mark_set Shutdown f h (attachMark Recorder)
+attach-bit Sender Sender n s a f h closes = mark_set SenderClosed f h (attach_mark Sender)
+attach-bit Sender Recorder n s a f h closes = mark_set RecorderClosed f h (attach_mark Sender)
+attach-bit Recorder Sender n s a f h closes = mark_set SenderClosed f h (attach_mark Recorder)
+attach-bit Recorder Recorder n s a f h closes = mark_set RecorderClosed f h (attach_mark Recorder)
+attach-bit Sender mover n s a f h shuts = mark_set Shutdown f h (attach_mark Sender)
+attach-bit Recorder mover n s a f h shuts = mark_set Shutdown f h (attach_mark Recorder)
 attach-bit side mover n s a f h waits = refl
 attach-bit side mover n s a f h (wakes q b m) = refl
 
-pub close-bit-own : (side : Side) (n : ℕ) (s : Step) (a : Access) (f : ℕ) → f < reservedFrom → Does side n s a → bitOn (worth (closeMark side)) (flagsBy a f) ≡ closedAfter (stanceOf s) (bitOn (worth (closeMark side)) f)
+pub close-bit-own : (side : Side) (n : ℕ) (s : Step) (a : Access) (f : ℕ) → f < reserved_from → Does side n s a → bit_on (worth (close_mark side)) (flags_by a f) ≡ closed_after (stance_of s) (bit_on (worth (close_mark side)) f)
 close-bit-own side n s a f h (nothing q) = sym (q.closed _)
 close-bit-own side n s a f h (looks q) = sym (q.closed _)
 close-bit-own side n s a f h (flags q) = sym (q.closed _)
@@ -114,7 +114,7 @@ close-bit-own Recorder n s a f h shuts = mark_set Shutdown f h RecorderClosed
 close-bit-own side n s a f h waits = refl
 close-bit-own side n s a f h (wakes q b m) = sym (q.closed _)
 
-pub close-bit-other : (side : Side) (n : ℕ) (s : Step) (a : Access) (f : ℕ) → f < reservedFrom → Does side n s a → bitOn (worth (closeMark (other side))) (flagsBy a f) ≡ bitOn (worth (closeMark (other side))) f
+pub close-bit-other : (side : Side) (n : ℕ) (s : Step) (a : Access) (f : ℕ) → f < reserved_from → Does side n s a → bit_on (worth (close_mark (other side))) (flags_by a f) ≡ bit_on (worth (close_mark (other side))) f
 close-bit-other side n s a f h (nothing q) = refl
 close-bit-other side n s a f h (looks q) = refl
 close-bit-other side n s a f h (flags q) = refl
@@ -136,23 +136,23 @@ length_more xs x = length-append xs (x ∷ [])
 
 module _ (P S v : ℕ) (on : Bool) (r : List ℕ) (p : Party) (payload : List ℕ) (fixed : Fixed P S v on r) where
   abbrev left : Access → List ℕ
-  left a = leavesOf r p.own a p.tag payload
+  left a = leaves_of r p.own a p.tag payload
 
-  pub header-in : headerBytes ≤ length r
-  unfolding totalBytes
+  pub header-in : header_bytes ≤ length r
+  unfolding total_bytes
   header-in = omega (arith, fixed.long)
 
-  pub flags-are : (a : Access) → leAt 4 (left a) flagsAt ≡ flagsBy a (leAt 4 r flagsAt)
+  pub flags-are : (a : Access) → le_at 4 (left a) flags_at ≡ flags_by a (le_at 4 r flags_at)
   flags-are a = flags-after r p.own p.tag payload header-in fixed.small a
 
   pub fixed_kept : (a : Access) → Fixed P S v on (left a)
   fixed_kept a =
       record {
         long = length-leaves r p.own p.tag payload a ∙ fixed.long;
-        small = rw (flags-are a) (flagsBy-small a (leAt 4 r flagsAt) fixed.small);
+        small = rw (flags-are a) (flags_by-small a (le_at 4 r flags_at) fixed.small);
         power_at = power-after r p.own p.tag payload header-in a ∙ fixed.power_at;
         slot_at = slot-size-after r p.own p.tag payload header-in a ∙ fixed.slot_at;
-        option = rw (flags-are a) (flagsBy-option a (leAt 4 r flagsAt) fixed.small ∙ fixed.option);
+        option = rw (flags-are a) (flags_by-option a (le_at 4 r flags_at) fixed.small ∙ fixed.option);
       }
 
   module _ (t : Trace) (buffer : List ℕ) where
@@ -182,7 +182,7 @@ module _ (P S v : ℕ) (on : Bool) (r : List ℕ) (p : Party) (payload : List �
     counts-other side s a (wakes q b m) = refl
 
     -- the own count moves as the counter does
-    pub counts-own : (side : Side) (s : Step) (a : Access) → Does side p.counter s a → counterAfter (stanceOf s) (plus 64 v (count_of side t)) ≡ plus 64 v (count_of side (told a))
+    pub counts-own : (side : Side) (s : Step) (a : Access) → Does side p.counter s a → counter_after (stance_of s) (plus 64 v (count_of side t)) ≡ plus 64 v (count_of side (told a))
     counts-own side s a (nothing q) = q.counter _
     counts-own side s a (looks q) = q.counter _
     counts-own side s a (flags q) = q.counter _
@@ -204,8 +204,8 @@ module _ (P S v : ℕ) (on : Bool) (r : List ℕ) (p : Party) (payload : List �
     counts-own side s a (wakes q b m) = q.counter _
 
     -- the shared counter of the mover holds what its record holds, and the other's what it held
-    pub word-own : (side : Side) (s : Step) (a : Access) → Does side p.counter s a → p.counter ≡ plus 64 v (count_of side t) → leAt 8 r (counterAt side) ≡ plus 64 v (count_of side t)
-        → leAt 8 (left a) (counterAt side) ≡ counterAfter (stanceOf s) p.counter
+    pub word-own : (side : Side) (s : Step) (a : Access) → Does side p.counter s a → p.counter ≡ plus 64 v (count_of side t) → le_at 8 r (counter_at side) ≡ plus 64 v (count_of side t)
+        → le_at 8 (left a) (counter_at side) ≡ counter_after (stance_of s) p.counter
     word-own side s a (nothing q) c h = counter-after r p.own p.tag payload header-in side a tt ∙ h ∙ sym c ∙ sym (q.counter _)
     word-own side s a (looks q) c h = counter-after r p.own p.tag payload header-in side a tt ∙ h ∙ sym c ∙ sym (q.counter _)
     word-own side s a (flags q) c h = counter-after r p.own p.tag payload header-in side a tt ∙ h ∙ sym c ∙ sym (q.counter _)
@@ -220,7 +220,7 @@ module _ (P S v : ℕ) (on : Bool) (r : List ℕ) (p : Party) (payload : List �
     word-own side s a waits c h = counter-after r p.own p.tag payload header-in side a tt ∙ h ∙ sym c
     word-own side s a (wakes q b m) c h = counter-after r p.own p.tag payload header-in side a tt ∙ h ∙ sym c ∙ sym (q.counter _)
 
-    pub word-other : (side : Side) (s : Step) (a : Access) → Does side p.counter s a → leAt 8 (left a) (counterAt (other side)) ≡ leAt 8 r (counterAt (other side))
+    pub word-other : (side : Side) (s : Step) (a : Access) → Does side p.counter s a → le_at 8 (left a) (counter_at (other side)) ≡ le_at 8 r (counter_at (other side))
     word-other side s a (nothing q) = counter-after r p.own p.tag payload header-in (other side) a tt
     word-other side s a (looks q) = counter-after r p.own p.tag payload header-in (other side) a tt
     word-other side s a (flags q) = counter-after r p.own p.tag payload header-in (other side) a tt

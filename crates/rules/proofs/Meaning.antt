@@ -20,52 +20,52 @@ use Rattle.types.specs.declared.Step.{Step}
 use Rattle.types.specs.declared.Step.TheVariants.{Look}
 use Rattle.types.specs.declared.Answer.{Answer}
 use Rattle.types.specs.declared.Answer.TheVariants.{Full, Empty, Begun}
-use Rattle.layout.specs.Limits.{powerOk, slotOk, capacity, totalBytes, payloadCapacity}
-use Rattle.rules.specs.Looks.{roomHere, roomOf}
-use Rattle.rules.specs.Take.{stanceOf}
-use Rattle.rules.specs.Next.{nextSpec}
+use Rattle.layout.specs.Limits.{power_ok, slot_ok, capacity, total_bytes, payload_capacity}
+use Rattle.rules.specs.Looks.{room_here, room_of}
+use Rattle.rules.specs.Take.{stance_of}
+use Rattle.rules.specs.Next.{next_spec}
 use Rattle.rules.specs.Access.{value_of}
-use Rattle.rules.specs.Turn.{faultOk, lentTo, lentOk, goes, taken, turnSpec}
+use Rattle.rules.specs.Turn.{fault_ok, lent_to, lent_ok, goes, taken, turn_spec}
 use Rattle.rules.specs.Given.{full, empty, turn, Given, turn-taken}
-use Rattle.rules.specs.Run.{Trace, World, Happening, partyIn, takes, happens, plays}
+use Rattle.rules.specs.Run.{Trace, World, Happening, party_in, takes, happens, plays}
 use Rattle.rules.specs.Claims.{Fresh, reached}
 use Rattle.rules.specs.Anywhere.{told}
 use Rattle.rules.proofs.Views.{copying-step}
 use Rattle.rules.proofs.Grounds.{lent_is}
 use Rattle.rules.specs.Meaning.{AsAsked, NoteAsAsked, BlockingWaits, TryAnswers, TurnsTaken, TryPush, TryPop}
 use Rattle.rules.proofs.Answered.{given-first, given-only}
-use Rattle.rules.proofs.Rooms.{asRoom}
+use Rattle.rules.proofs.Rooms.{as_room}
 use Rattle.rules.proofs.Leads.{Tells}
-use Rattle.rules.proofs.RealTurn.{sightAt, own_is, tells-here, turn-is-after}
+use Rattle.rules.proofs.RealTurn.{sight_at, own_is, tells-here, turn-is-after}
 use Rattle.rules.proofs.RealRun.{power-fits, slot-fits, real-reached, real-happens}
 use Rattle.rules.proofs.Delivers.{turn-happens}
 use Rattle.rules.proofs.Listening.{trace-is}
 use Rattle.rules.proofs.Causes.{room-is}
 use Rattle.rules.proofs.Begins.{always-sound}
 use Rattle.rules.proofs.Meant.{meant-reached}
-use Rattle.rules.proofs.Real.{sizes, roomIn, Real}
+use Rattle.rules.proofs.Real.{sizes, room_in, Real}
 use Rattle.types.specs.declared.Party.{Party}
 use Rattle.types.specs.declared.Event.TheVariants.{Push, Pop}
-use Rattle.rules.specs.Sides.{blockedAnswer}
-use Rattle.rules.specs.Calls.{ready, named, begins, pushSpec, popSpec}
-use Rattle.rules.specs.Bench.{settled, played, playedLeaves}
+use Rattle.rules.specs.Sides.{blocked_answer}
+use Rattle.rules.specs.Calls.{ready, named, begins, push_spec, pop_spec}
+use Rattle.rules.specs.Bench.{settled, played, played_leaves}
 
 -- what a turn answers has its row
-pub row : (side : Side) (w : World) (payload lent : List ℕ) (fault : Fault) (x : Answer) → told side w payload lent fault ≡ x → Given (turn side w.region (partyIn w side) payload lent fault) x
-row side w payload lent fault x e = rw e at (given-first (turn side w.region (partyIn w side) payload lent fault))
+pub row : (side : Side) (w : World) (payload lent : List ℕ) (fault : Fault) (x : Answer) → told side w payload lent fault ≡ x → Given (turn side w.region (party_in w side) payload lent fault) x
+row side w payload lent fault x e = rw e at (given-first (turn side w.region (party_in w side) payload lent fault))
 
 -- 9 and 10 end a try call alone
-tries : (side : Side) (w : World) (payload lent : List ℕ) (fault : Fault) → (told side w payload lent fault ≡ Full) ⊎ (told side w payload lent fault ≡ Empty) → (partyIn w side).blocking ≡ false
+tries : (side : Side) (w : World) (payload lent : List ℕ) (fault : Fault) → (told side w payload lent fault ≡ Full) ⊎ (told side w payload lent fault ≡ Empty) → (party_in w side).blocking ≡ false
 tries side w payload lent fault (inl e) = by (row side w payload lent fault Full e)
   where
-    by : Given (turn side w.region (partyIn w side) payload lent fault) Full → (partyIn w side).blocking ≡ false
+    by : Given (turn side w.region (party_in w side) payload lent fault) Full → (party_in w side).blocking ≡ false
     by (turn-taken g (full s q b h)) = b
 tries side w payload lent fault (inr e) = by (row side w payload lent fault Empty e)
   where
-    by : Given (turn side w.region (partyIn w side) payload lent fault) Empty → (partyIn w side).blocking ≡ false
+    by : Given (turn side w.region (party_in w side) payload lent fault) Empty → (party_in w side).blocking ≡ false
     by (turn-taken g (empty s q b h)) = b
 
-lent-named : (st : Stance) (lent n : ℕ) → (st ≡ Copying → lent ≡ n) → lentOk st lent n ≡ true
+lent-named : (st : Stance) (lent n : ℕ) → (st ≡ Copying → lent ≡ n) → lent_ok st lent n ≡ true
 lent-named Resting lent n e = refl
 lent-named Sleeping lent n e = refl
 lent-named Copying lent n e = eq-eqb lent n (e refl)
@@ -73,7 +73,7 @@ lent-named Publishing lent n e = refl
 lent-named Closing lent n e = refl
 lent-named Moving lent n e = refl
 
-pub fault-fine : (f : Fault) → (f ≡ Error 0 → ⊥) → faultOk f ≡ true
+pub fault-fine : (f : Fault) → (f ≡ Error 0 → ⊥) → fault_ok f ≡ true
 fault-fine Fine n = refl
 fault-fine (Error zero) n = absurd (n refl)
 fault-fine (Error (suc e)) n = lt-ltb 0 (suc e) (omega arith)
@@ -87,10 +87,10 @@ begun-party p true false false true q e = absurd (let z : ◌≡◌ {A = ℕ} 0 
 begun-party p true false false false q e = refl
 
 module _ (r : List ℕ) (P S : ℕ) (on : Bool) (v : ℕ) (fresh : Fresh r P S on v) where
-  abbrev pub power-ok : powerOk P ≡ true
+  abbrev pub power-ok : power_ok P ≡ true
   power-ok = power-fits r P S on v fresh
 
-  abbrev pub slot_ok : slotOk S ≡ true
+  abbrev pub slot_ok : slot_ok S ≡ true
   slot_ok = slot-fits r P S on v fresh
 
   abbrev pub at : List Happening → World
@@ -117,25 +117,25 @@ module _ (r : List ℕ) (P S : ℕ) (on : Bool) (v : ℕ) (fresh : Fresh r P S o
       let z : ◌≡◌ {A = ℕ} 0 1 = cc in omega arith
 
   abbrev Blocks : Side → World → Type 0
-  Blocks side w = (payload lent : List ℕ) (fault : Fault) → takes w side payload lent fault ≡ true → told side w payload lent fault ≡ blockedAnswer side
+  Blocks side w = (payload lent : List ℕ) (fault : Fault) → takes w side payload lent fault ≡ true → told side w payload lent fault ≡ blocked_answer side
 
   -- a try call at its look, with no room
-  tries-here : (side : Side) (w : World) → Real P S v on w → (partyIn w side).blocking ≡ false → (partyIn w side).step ≡ Look → roomIn P S v on side w.trace ≡ 0 → Blocks side w
+  tries-here : (side : Side) (w : World) → Real P S v on w → (party_in w side).blocking ≡ false → (party_in w side).step ≡ Look → room_in P S v on side w.trace ≡ 0 → Blocks side w
   tries-here side w real b s none payload lent fault g =
-      let p = partyIn w side in
+      let p = party_in w side in
       let o = ap (λ (x : Own). x.side) (own_is P S v on power-ok slot_ok w real side payload lent fault g) in
-      let seen : roomHere p.own p.counter (value_of w.region p.own (nextSpec p)) ≡ Blocked =
-      subst (λ (u : Step). Tells p.own (sightAt P S v on side p.own w.region w.trace p.blocking) p.counter (value_of w.region p.own (nextSpec p)) u) s
+      let seen : room_here p.own p.counter (value_of w.region p.own (next_spec p)) ≡ Blocked =
+      subst (λ (u : Step). Tells p.own (sight_at P S v on side p.own w.region w.trace p.blocking) p.counter (value_of w.region p.own (next_spec p)) u) s
       (tells-here P S v on power-ok slot_ok w real side payload lent fault g)
-      ∙ ap asRoom none in
+      ∙ ap as_room none in
       by side p o b s seen g
     where
-      by : (side : Side) (p : Party) → p.own.side ≡ side → p.blocking ≡ false → p.step ≡ Look → roomHere p.own p.counter (value_of w.region p.own (nextSpec p)) ≡ Blocked
-          → taken side w.region p payload lent fault ≡ true → (turnSpec side w.region p payload lent fault).answer ≡ blockedAnswer side
-      by Sender p o b s seen g = given-only (turn-taken g (full s o b (subst (λ (τ : Side). roomOf τ (capacity p.own.power) p.counter (value_of w.region p.own (nextSpec p)) ≡ Blocked) o seen)))
-      by Recorder p o b s seen g = given-only (turn-taken g (empty s o b (subst (λ (τ : Side). roomOf τ (capacity p.own.power) p.counter (value_of w.region p.own (nextSpec p)) ≡ Blocked) o seen)))
+      by : (side : Side) (p : Party) → p.own.side ≡ side → p.blocking ≡ false → p.step ≡ Look → room_here p.own p.counter (value_of w.region p.own (next_spec p)) ≡ Blocked
+          → taken side w.region p payload lent fault ≡ true → (turn_spec side w.region p payload lent fault).answer ≡ blocked_answer side
+      by Sender p o b s seen g = given-only (turn-taken g (full s o b (subst (λ (τ : Side). room_of τ (capacity p.own.power) p.counter (value_of w.region p.own (next_spec p)) ≡ Blocked) o seen)))
+      by Recorder p o b s seen g = given-only (turn-taken g (empty s o b (subst (λ (τ : Side). room_of τ (capacity p.own.power) p.counter (value_of w.region p.own (next_spec p)) ≡ Blocked) o seen)))
 
-  try-answers : (side : Side) → TryAnswers r P S on v side (blockedAnswer side)
+  try-answers : (side : Side) → TryAnswers r P S on v side (blocked_answer side)
   try-answers side hs t b s none =
       tries-here side (at hs) (real-reached r P S on v fresh hs t) ((meant-reached r P S on v fresh side hs t).keeps.blocking ∙ b) s (sym (room-is r P S on v fresh side hs t) ∙ none)
 
@@ -146,20 +146,20 @@ module _ (r : List ℕ) (P S : ℕ) (on : Bool) (v : ℕ) (fresh : Fresh r P S o
   try-empty = try-answers Recorder
 
   pub try-push : TryPush r P S on v
-  unfolding happens played playedLeaves settled pushSpec
+  unfolding happens played played_leaves settled push_spec
   try-push hs t tag l i o small e none =
       let w = at hs in
-      let p = partyIn w Sender in
-      let q : (pushSpec p false tag l).party ≡ named false tag l p = begun-party p (ready Sender p) p.closed false (not (leb l (payloadCapacity p.own.slot))) (named false tag l p) e in
+      let p = party_in w Sender in
+      let q : (push_spec p false tag l).party ≡ named false tag l p = begun-party p (ready Sender p) p.closed false (not (leb l (payload_capacity p.own.slot))) (named false tag l p) e in
       tries-here Sender (happens (plays (Push false tag l) i o) w) (real-happens P S v on power-ok slot_ok (plays (Push false tag l) i o) w small (real-reached r P S on v fresh hs t))
       (ap (λ (x : Party). x.blocking) q) (ap (λ (x : Party). x.step) q) (sym (room-is r P S on v fresh Sender hs t) ∙ none)
 
   pub try-pop : TryPop r P S on v
-  unfolding happens played playedLeaves settled popSpec
+  unfolding happens played played_leaves settled pop_spec
   try-pop hs t l i o e none =
       let w = at hs in
-      let p = partyIn w Recorder in
-      let q : (popSpec p false l).party ≡ named false 0 l p = begun-party p (ready Recorder p) p.closed false false (named false 0 l p) e in
+      let p = party_in w Recorder in
+      let q : (pop_spec p false l).party ≡ named false 0 l p = begun-party p (ready Recorder p) p.closed false false (named false 0 l p) e in
       tries-here Recorder (happens (plays (Pop false l) i o) w) (real-happens P S v on power-ok slot_ok (plays (Pop false l) i o) w tt (real-reached r P S on v fresh hs t))
       (ap (λ (x : Party). x.blocking) q) (ap (λ (x : Party). x.step) q) (sym (room-is r P S on v fresh Recorder hs t) ∙ none)
 
@@ -167,10 +167,10 @@ module _ (r : List ℕ) (P S : ℕ) (on : Bool) (v : ℕ) (fresh : Fresh r P S o
   unfolding goes
   turns-taken side hs t here payload lent fault named fine =
       let w = at hs in
-      let p = partyIn w side in
+      let p = party_in w side in
       let real = real-reached r P S on v fresh hs t in
       let own : p.own ≡ sizes P S v on side p.own.spins = ((real.sides side).seat.in_place here).0 in
       let k = (meant-reached r P S on v fresh side hs t).keeps.length in
-      let l : eqb (length w.region) (totalBytes p.own.power p.own.slot) ≡ true = eq-eqb _ _ (real.fixed.long ∙ sym (ap (λ (o : Own). totalBytes o.power o.slot) own)) in
-      let m = lent-named (stanceOf p.step) (lentTo side (length payload) (length lent)) p.length (λ e. lent_is payload lent side ∙ named (copying-step p.step e) ∙ sym k) in
+      let l : eqb (length w.region) (total_bytes p.own.power p.own.slot) ≡ true = eq-eqb _ _ (real.fixed.long ∙ sym (ap (λ (o : Own). total_bytes o.power o.slot) own)) in
+      let m = lent-named (stance_of p.step) (lent_to side (length payload) (length lent)) p.length (λ e. lent_is payload lent side ∙ named (copying-step p.step e) ∙ sym k) in
       rw (always-sound r P S on v fresh side hs t here, l, m, fault-fine fault fine)

@@ -29,32 +29,32 @@ use Rattle.types.specs.declared.Step.{Step}
 use Rattle.types.specs.declared.Step.TheVariants.{Look, Copy, Publish, Raise, Epoch, LastLook, CloseSet, ShutSet}
 use Rattle.types.specs.declared.Event.TheVariants.{Turn, Failing, Spurious, TimeOut, Push, Pop, Close, Shutdown}
 use Rattle.types.specs.declared.Answer.TheVariants.{GoesOn}
-use Rattle.layout.specs.Limits.{powerOk, slotOk, payloadCapacity}
+use Rattle.layout.specs.Limits.{power_ok, slot_ok, payload_capacity}
 use Rattle.layout.specs.Slots.{head_of}
-use Rattle.layout.specs.Attach.{attachAnswer, attachReply, attached}
+use Rattle.layout.specs.Attach.{attach_answer, attach_reply, attached}
 use Rattle.layout.specs.Create.{created}
-use Rattle.rules.specs.Sides.{other, sameSide}
-use Rattle.rules.specs.Looks.{fitOf}
-use Rattle.rules.specs.Steps.{fitMove, copyWith}
-use Rattle.rules.specs.Take.{stanceOf, stepAfter, move_at, move_of}
-use Rattle.rules.specs.Next.{slotAccess, next_at, nextSpec}
-use Rattle.rules.specs.Access.{value_of, bufferOf}
-use Rattle.rules.specs.Calls.{isSleeping, sound, ready, reply, at, named, begins, rouses, pushSpec, popSpec, closeSpec, shutSpec, spuriousSpec, timeoutSpec}
-use Rattle.rules.specs.Turn.{errorOf, wokeOf}
-use Rattle.rules.specs.Bench.{seat, hears, wakened, settled, played, playedLeaves}
-use Rattle.rules.specs.Run.{Note, Trace, World, Happening, attaches, plays, partyIn, takes, carried, traced, happens, run, opened}
+use Rattle.rules.specs.Sides.{other, same_side}
+use Rattle.rules.specs.Looks.{fit_of}
+use Rattle.rules.specs.Steps.{fit_move, copy_with}
+use Rattle.rules.specs.Take.{stance_of, step_after, move_at, move_of}
+use Rattle.rules.specs.Next.{slot_access, next_at, next_spec}
+use Rattle.rules.specs.Access.{value_of, buffer_of}
+use Rattle.rules.specs.Calls.{is_sleeping, sound, ready, reply, at, named, begins, rouses, push_spec, pop_spec, close_spec, shut_spec, spurious_spec, timeout_spec}
+use Rattle.rules.specs.Turn.{error_of, woke_of}
+use Rattle.rules.specs.Bench.{seat, hears, wakened, settled, played, played_leaves}
+use Rattle.rules.specs.Run.{Note, Trace, World, Happening, attaches, plays, party_in, takes, carried, traced, happens, run, opened}
 use Rattle.rules.specs.Phase.{Phase, resting, looking, copying, publishing, telling, asking, armed, poised, waits, sleeps, glancing, leaving, phase}
 use Rattle.rules.specs.Premises.{AllTyped}
-use Rattle.rules.specs.Stretch.{notesOf}
+use Rattle.rules.specs.Stretch.{notes_of}
 use Rattle.rules.specs.Claims.{Fresh, reached}
 use Rattle.rules.specs.Meaning.{call_of}
-use Rattle.rules.specs.Asked.{Call, noCall, copyOf as copy_of, parting, begun, lent_of, atCopy, turnCall, callAfter, call_by, AsNamed}
+use Rattle.rules.specs.Asked.{Call, no_call, copy_of as copy_of, parting, begun, lent_of, at_copy, turn_call, call_after, call_by, AsNamed}
 use Rattle.rules.proofs.Views.{acting, is-copy, sleeping-step, view, View, at_rest, at_copy, asleep, elsewhere}
 use Rattle.rules.proofs.Does.{Does, does, nothing, looks, flags, reads as epoch, writes, takes as take-slot, stores as store, raises as ring, closes as close, shuts as shut, waits as wait, wakes as wake}
 use Rattle.rules.proofs.Leads.{Sight, asks, Leads, idles, finds, blocks, gives_up, copies, spills, tells, stores, owes, passes, raises, wakes, enters, stops, finds-spin, spins, reads, finds-again, stays, enters-again, stops-again, sleeps as falls-asleep, returns, ends, dreams, glances, glances-again, times-out, finds-last, finds-none, closes, closes-alone, close-raises, close-wakes, shuts, shut-raises, shut-wakes, shut-raises-again, shut-wakes-again}
 use Rattle.rules.proofs.FitLaws.{copy-by}
 use Rattle.rules.proofs.Seats.{moved, roused, roused-elim}
-use Rattle.rules.proofs.Taken.{turnWorld, turn-refused}
+use Rattle.rules.proofs.Taken.{turn_world, turn-refused}
 use Rattle.rules.proofs.RealTurn.{own_is, next-step, leads-here, after_turn, turn-is-after}
 use Rattle.rules.proofs.RealAttach.{bit-clear}
 use Rattle.rules.proofs.RealRun.{power-fits, slot-fits, real-start, real-happens}
@@ -65,13 +65,13 @@ use Rattle.rules.proofs.Real.{Real}
 -- a call that has published nothing yet and copied nothing
 pub record Before (side : Side) (c : Call) (t : Trace) : Type 0 where
   pub last : c.last ≡ true
-  pub same : notesOf side t ≡ c.before
+  pub same : notes_of side t ≡ c.before
   pub none : c.copied ≡ []
 
 -- one that has its note in hand; a push's step carries no numbers
 pub record Made (side : Side) (l g : ℕ) (c : Call) (t : Trace) : Type 0 where
   pub last : c.last ≡ true
-  pub same : notesOf side t ≡ c.before
+  pub same : notes_of side t ≡ c.before
   pub bare : side ≡ Sender → (l ≡ 0) × (g ≡ 0)
   pub hand : side ≡ Sender → AsNamed Sender c t.hand
 
@@ -80,7 +80,7 @@ pub record Given (side : Side) (l g : ℕ) (c : Call) (t : Trace) : Type 0 where
   pub last : c.last ≡ true
   pub bare : side ≡ Sender → (l ≡ 0) × (g ≡ 0)
   pub note : Note
-  pub more : notesOf side t ≡ c.before ++ (note ∷ [])
+  pub more : notes_of side t ≡ c.before ++ (note ∷ [])
   pub as-named : AsNamed side c note
 
 abbrev pub Under : Side → Phase → Call → Trace → Type 0
@@ -105,11 +105,11 @@ pub record Keeps (c : Call) (p : Party) : Type 0 where
   pub fresh : p.own.attached ≡ false → (c.blocking ≡ false) × ((c.tag ≡ 0) × (c.length ≡ 0))
 
 pub record Meant (side : Side) (c : Call) (w : World) : Type 0 where
-  pub keeps : Keeps c (partyIn w side)
-  pub under : Under side (phase (partyIn w side).step) c w.trace
+  pub keeps : Keeps c (party_in w side)
+  pub under : Under side (phase (party_in w side).step) c w.trace
 
 -- a trace with the same notes, and the same hand of a sender's
-under-kept : (σ : Side) (ph : Phase) (c : Call) (t u : Trace) → notesOf σ u ≡ notesOf σ t → (σ ≡ Sender → u.hand ≡ t.hand) → Under σ ph c t → Under σ ph c u
+under-kept : (σ : Side) (ph : Phase) (c : Call) (t u : Trace) → notes_of σ u ≡ notes_of σ t → (σ ≡ Sender → u.hand ≡ t.hand) → Under σ ph c t → Under σ ph c u
 under-kept σ resting c t u n h y = tt
 under-kept σ looking c t u n h y = record { last = y.last; same = n ∙ y.same; none = y.none }
 under-kept σ copying c t u n h y = record { last = y.last; same = n ∙ y.same; none = y.none }
@@ -202,7 +202,7 @@ module _ (p : Party) (payload buffer : List ℕ) (t : Trace) (c : Call) where
 
   -- and a copy
   copy-under : (σ : Side) (lent : List ℕ) (n : ℕ) (f : Fit) (l g : ℕ) → p.tag ≡ c.tag → Before σ c t
-      → Under σ (phase (stepAfter (copyWith σ (fitMove f l g)) Copy)) (copy_of (lent_of σ payload lent) c) (traced (slotAccess σ n) p payload buffer t)
+      → Under σ (phase (step_after (copy_with σ (fit_move f l g)) Copy)) (copy_of (lent_of σ payload lent) c) (traced (slot_access σ n) p payload buffer t)
   copy-under Sender lent n f l g e y =
       record {
         last = y.last;
@@ -221,18 +221,18 @@ module _ (p : Party) (payload buffer : List ℕ) (t : Trace) (c : Call) where
       }
 
 -- a copy of what was lent, in the call of the mover alone
-same_true : (side : Side) → sameSide side side ≡ true
+same_true : (side : Side) → same_side side side ≡ true
 same_true Sender = refl
 same_true Recorder = refl
 
-same_false : (side : Side) → sameSide (other side) side ≡ false
+same_false : (side : Side) → same_side (other side) side ≡ false
 same_false Sender = refl
 same_false Recorder = refl
 
-pub not-copy : (s : Step) → (s ≡ Copy → ⊥) → atCopy (stanceOf s) ≡ false
+pub not-copy : (s : Step) → (s ≡ Copy → ⊥) → at_copy (stance_of s) ≡ false
 not-copy s n = by s (view s) n
   where
-    acting-copy : (u : Stance) → acting u ≡ true → atCopy u ≡ false
+    acting-copy : (u : Stance) → acting u ≡ true → at_copy u ≡ false
     acting-copy Resting e = refl
     acting-copy Sleeping e = refl
     acting-copy Copying e = absurd (let z : ◌≡◌ {A = ℕ} 0 1 = cc in omega arith)
@@ -240,11 +240,11 @@ not-copy s n = by s (view s) n
     acting-copy Closing e = refl
     acting-copy Moving e = refl
 
-    by : (s : Step) → View s → (s ≡ Copy → ⊥) → atCopy (stanceOf s) ≡ false
+    by : (s : Step) → View s → (s ≡ Copy → ⊥) → at_copy (stance_of s) ≡ false
     by s at_rest n = refl
     by s at_copy n = absurd (n refl)
     by s asleep n = refl
-    by s (elsewhere a w) n = acting-copy (stanceOf s) a
+    by s (elsewhere a w) n = acting-copy (stance_of s) a
 
 copy-keeps : (c : Call) (b : Bool) (l : List ℕ) (p : Party) → Keeps c p → Keeps (pick b (copy_of l c) c) p
 copy-keeps c true l p y = record { blocking = y.blocking; tag = y.tag; length = y.length; fresh = y.fresh }
@@ -255,13 +255,13 @@ pub same-keeps : (c : Call) (p q : Party) → q.own ≡ p.own → q.blocking ≡
 same-keeps c p q o b t l y =
     record { blocking = b ∙ y.blocking; tag = t ∙ y.tag; length = l ∙ y.length; fresh = λ e. y.fresh (ap (λ (x : Own). x.attached) (sym o) ∙ e) }
 
-module _ (P S v : ℕ) (on : Bool) (power-ok : powerOk P ≡ true) (Slot-ok : slotOk S ≡ true) where
+module _ (P S v : ℕ) (on : Bool) (power-ok : power_ok P ≡ true) (Slot-ok : slot_ok S ≡ true) where
   module _ (w : World) (real : Real P S v on w) (side : Side) (payload lent : List ℕ) (fault : Fault) (g : takes w side payload lent fault ≡ true) where
     abbrev p : Party
-    p = partyIn w side
+    p = party_in w side
 
     abbrev q : Party
-    q = partyIn w (other side)
+    q = party_in w (other side)
 
     abbrev s : Step
     s = p.step
@@ -276,47 +276,47 @@ module _ (P S v : ℕ) (on : Bool) (power-ok : powerOk P ≡ true) (Slot-ok : sl
     a = next_at s side p.counter
 
     abbrev buffer : List ℕ
-    buffer = bufferOf w.region p.own a p.length lent
+    buffer = buffer_of w.region p.own a p.length lent
 
     abbrev after : World
     after = after_turn P S v on power-ok Slot-ok w real side payload lent fault g
 
-    call-mine : (c : Call) → turnCall side w side payload lent fault c ≡ pick (atCopy (stanceOf s)) (copy_of (lent_of side payload lent) c) c
+    call-mine : (c : Call) → turn_call side w side payload lent fault c ≡ pick (at_copy (stance_of s)) (copy_of (lent_of side payload lent) c) c
     call-mine c = rw (same_true side, g)
 
-    call-theirs : (c : Call) → turnCall (other side) w side payload lent fault c ≡ c
+    call-theirs : (c : Call) → turn_call (other side) w side payload lent fault c ≡ c
     call-theirs c = rw (same_false side)
 
-    own-after : (c : Call) → Meant side c w → Under side (phase next) (pick (atCopy (stanceOf s)) (copy_of (lent_of side payload lent) c) c) (traced a p payload buffer t)
+    own-after : (c : Call) → Meant side c w → Under side (phase next) (pick (at_copy (stance_of s)) (copy_of (lent_of side payload lent) c) c) (traced a p payload buffer t)
     unfolding move_of
     own-after c y = by (is-copy s)
       where
-        by : (s ≡ Copy) ⊎ (s ≡ Copy → ⊥) → Under side (phase next) (pick (atCopy (stanceOf s)) (copy_of (lent_of side payload lent) c) c) (traced a p payload buffer t)
+        by : (s ≡ Copy) ⊎ (s ≡ Copy → ⊥) → Under side (phase next) (pick (at_copy (stance_of s)) (copy_of (lent_of side payload lent) c) c) (traced a p payload buffer t)
         by (inr n) = rw (not-copy s n) (own-under p payload buffer t c side _ s next refl n (leads-here P S v on power-ok Slot-ok w real side payload lent fault g) y.under)
         by (inl e) =
-            let val = value_of w.region p.own (nextSpec p) in
-            subst (λ (u : Step). Under side (phase (stepAfter (move_at u p.own p.counter p.blocking p.length val (errorOf fault)) u)) (pick (atCopy (stanceOf u)) (copy_of (lent_of side payload lent) c) c) (traced (next_at u side p.counter) p payload buffer t))
+            let val = value_of w.region p.own (next_spec p) in
+            subst (λ (u : Step). Under side (phase (step_after (move_at u p.own p.counter p.blocking p.length val (error_of fault)) u)) (pick (at_copy (stance_of u)) (copy_of (lent_of side payload lent) c) c) (traced (next_at u side p.counter) p payload buffer t))
             (sym e)
-            (subst (λ (m : Move). Under side (phase (stepAfter m Copy)) (copy_of (lent_of side payload lent) c) (traced (slotAccess side p.counter) p payload buffer t))
+            (subst (λ (m : Move). Under side (phase (step_after m Copy)) (copy_of (lent_of side payload lent) c) (traced (slot_access side p.counter) p payload buffer t))
             (sym (copy-by p.own p.length val side (ap (λ (o : Own). o.side) (own_is P S v on power-ok Slot-ok w real side payload lent fault g))))
-            (copy-under p payload buffer t c side lent p.counter (fitOf (head_of val) (payloadCapacity p.own.slot) p.length) (head_of val).length (head_of val).tag y.keeps.tag
+            (copy-under p payload buffer t c side lent p.counter (fit_of (head_of val) (payload_capacity p.own.slot) p.length) (head_of val).length (head_of val).tag y.keeps.tag
             (subst (λ (u : Step). Under side (phase u) c t) e y.under)))
 
-    mine-after : (c : Call) → Meant side c w → Meant side (turnCall side w side payload lent fault c) after
+    mine-after : (c : Call) → Meant side c w → Meant side (turn_call side w side payload lent fault c) after
     mine-after c y =
         let me = mover-is P S v on power-ok Slot-ok w real side payload lent fault g in
         rw (call-mine c)
         (record {
-          keeps = rw me (copy-keeps c (atCopy (stanceOf s)) (lent_of side payload lent) (moved p s next) (same-keeps c p (moved p s next) refl refl refl refl y.keeps));
+          keeps = rw me (copy-keeps c (at_copy (stance_of s)) (lent_of side payload lent) (moved p s next) (same-keeps c p (moved p s next) refl refl refl refl y.keeps));
           under = rw (me, trace-is P S v on power-ok Slot-ok w real side payload lent fault g) (own-after c y);
         })
 
     abbrev woken : Party
-    woken = wakened (other side) q (wokeOf (nextSpec p) (errorOf fault))
+    woken = wakened (other side) q (woke_of (next_spec p) (error_of fault))
 
     woken-same : (x : Woke) → ((wakened (other side) q x).tag ≡ q.tag) × ((wakened (other side) q x).length ≡ q.length)
     unfolding wakened
-    woken-same x = by (hears (other side) x && isSleeping (stanceOf q.step))
+    woken-same x = by (hears (other side) x && is_sleeping (stance_of q.step))
       where
         by : (b : Bool) → ((pick b (at Look q) q).tag ≡ q.tag) × ((pick b (at Look q) q).length ≡ q.length)
         by true = (refl, refl)
@@ -326,11 +326,11 @@ module _ (P S v : ℕ) (on : Bool) (power-ok : powerOk P ≡ true) (Slot-ok : sl
     sender-hand Sender e n u = absurd (let z : ◌≡◌ {A = ℕ} 0 1 = cc in omega arith)
     sender-hand Recorder e n u = hand-kept p payload buffer t n u (next_at u Recorder n) (does Recorder n u)
 
-    theirs-after : (c : Call) → Meant (other side) c w → Meant (other side) (turnCall (other side) w side payload lent fault c) after
+    theirs-after : (c : Call) → Meant (other side) c w → Meant (other side) (turn_call (other side) w side payload lent fault c) after
     theirs-after c y =
         let them = waiter-is P S v on power-ok Slot-ok w real side payload lent fault g in
-        let o = roused (other side) q (wokeOf (nextSpec p) (errorOf fault)) in
-        let m = woken-same (wokeOf (nextSpec p) (errorOf fault)) in
+        let o = roused (other side) q (woke_of (next_spec p) (error_of fault)) in
+        let m = woken-same (woke_of (next_spec p) (error_of fault)) in
         let kept = under-kept (other side) (phase q.step) c t (traced a p payload buffer t) (notes-kept p payload buffer t side p.counter s a (does side p.counter s)) (λ e. sender-hand side e p.counter s) y.under in
         rw (call-theirs c)
         (record {
@@ -339,25 +339,25 @@ module _ (P S v : ℕ) (on : Bool) (power-ok : powerOk P ≡ true) (Slot-ok : sl
               (roused-elim o (λ u. Under (other side) (phase u) c (traced a p payload buffer t)) kept (λ e. subst (λ (u : Step). Under (other side) (phase u) c (traced a p payload buffer t)) e kept));
         })
 
-  meant-turn : (σ side : Side) (w : World) → Real P S v on w → (payload lent : List ℕ) (fault : Fault) (c : Call) → Meant σ c w → Meant σ (turnCall σ w side payload lent fault c) (turnWorld w side payload lent fault)
+  meant-turn : (σ side : Side) (w : World) → Real P S v on w → (payload lent : List ℕ) (fault : Fault) (c : Call) → Meant σ c w → Meant σ (turn_call σ w side payload lent fault c) (turn_world w side payload lent fault)
   meant-turn σ side w real payload lent fault c y = by (takes w side payload lent fault) refl
     where
-      off : (b d : Bool) → b ≡ false → pick (sameSide σ side && (b && d)) (copy_of (lent_of side payload lent) c) c ≡ c
-      off b d e = rw e (none (sameSide σ side))
+      off : (b d : Bool) → b ≡ false → pick (same_side σ side && (b && d)) (copy_of (lent_of side payload lent) c) c ≡ c
+      off b d e = rw e (none (same_side σ side))
         where
           none : (x : Bool) → pick (x && false) (copy_of (lent_of side payload lent) c) c ≡ c
           none true = refl
           none false = refl
 
-      taken : (σ side : Side) → (g : takes w side payload lent fault ≡ true) → Meant σ c w → Meant σ (turnCall σ w side payload lent fault c) (after_turn P S v on power-ok Slot-ok w real side payload lent fault g)
+      taken : (σ side : Side) → (g : takes w side payload lent fault ≡ true) → Meant σ c w → Meant σ (turn_call σ w side payload lent fault c) (after_turn P S v on power-ok Slot-ok w real side payload lent fault g)
       taken Sender Sender g y = mine-after w real Sender payload lent fault g c y
       taken Recorder Sender g y = theirs-after w real Sender payload lent fault g c y
       taken Sender Recorder g y = theirs-after w real Recorder payload lent fault g c y
       taken Recorder Recorder g y = mine-after w real Recorder payload lent fault g c y
 
-      by : (b : Bool) → takes w side payload lent fault ≡ b → Meant σ (turnCall σ w side payload lent fault c) (turnWorld w side payload lent fault)
-      by true g = subst (Meant σ (turnCall σ w side payload lent fault c)) (sym (turn-is-after P S v on power-ok Slot-ok w real side payload lent fault g)) (taken σ side g y)
-      by false g = rw (off (takes w side payload lent fault) (atCopy (stanceOf (partyIn w side).step)) g) (subst (Meant σ c) (sym (turn-refused w side payload lent fault g)) y)
+      by : (b : Bool) → takes w side payload lent fault ≡ b → Meant σ (turn_call σ w side payload lent fault c) (turn_world w side payload lent fault)
+      by true g = subst (Meant σ (turn_call σ w side payload lent fault c)) (sym (turn-is-after P S v on power-ok Slot-ok w real side payload lent fault g)) (taken σ side g y)
+      by false g = rw (off (takes w side payload lent fault) (at_copy (stance_of (party_in w side).step)) g) (subst (Meant σ c) (sym (turn-refused w side payload lent fault g)) y)
 
 -- a begin changes the record and the call together, or neither
 pub begun-keeps : (F : Call → Party → Type 0) (p : Party) (g k o n : Bool) (q : Party) (c d : Call) → F c p → (g ≡ true → F d q)
@@ -385,62 +385,62 @@ abbrev Holds : Side → Trace → Call → Party → Type 0
 Holds side t c p = Keeps c p × Under side (phase p.step) c t
 
 -- a sleeper that rises goes on in its call
-risen : (side : Side) (t : Trace) (c : Call) (p : Party) (s : Step) → Under side (phase s) c t ≡ Before side c t → Holds side t c p → isSleeping (stanceOf p.step) ≡ true → Holds side t c (at s p)
+risen : (side : Side) (t : Trace) (c : Call) (p : Party) (s : Step) → Under side (phase s) c t ≡ Before side c t → Holds side t c p → is_sleeping (stance_of p.step) ≡ true → Holds side t c (at s p)
 risen side t c p s e h a =
     (same-keeps c p (at s p) refl refl refl refl h.0, rw e (subst (λ (u : Step). Under side (phase u) c t) (sleeping-step p.step a) h.1))
 
-module _ (P S v : ℕ) (on : Bool) (power-ok : powerOk P ≡ true) (Slot-ok : slotOk S ≡ true) where
+module _ (P S v : ℕ) (on : Bool) (power-ok : power_ok P ≡ true) (Slot-ok : slot_ok S ≡ true) where
   meant-attach : (σ side : Side) (count : ℕ) (w : World) → Real P S v on w → (c : Call) → Meant σ c w → Meant σ c (happens (attaches side count) w)
-  unfolding happens attachReply
-  meant-attach σ side count w real c y = by (eqb (number (attachAnswer w.region side count)) 0) refl
+  unfolding happens attach_reply
+  meant-attach σ side count w real c y = by (eqb (number (attach_answer w.region side count)) 0) refl
     where
-      fresh : eqb (number (attachAnswer w.region side count)) 0 ≡ true → (partyIn w side).own.attached ≡ false
+      fresh : eqb (number (attach_answer w.region side count)) 0 ≡ true → (party_in w side).own.attached ≡ false
       fresh e = sym (real.sides side).seat.attached-bit ∙ bit-clear w.region side count e
 
-      new : (side : Side) → Keeps c (partyIn w side) → (partyIn w side).own.attached ≡ false → Keeps c (attached w.region side count)
+      new : (side : Side) → Keeps c (party_in w side) → (party_in w side).own.attached ≡ false → Keeps c (attached w.region side count)
       new side k n =
           let f = k.fresh n in
           record { blocking = sym f.0; tag = sym f.1.0; length = sym f.1.1; fresh = λ e. absurd (let z : ◌≡◌ {A = ℕ} 0 1 = cc in omega arith) }
 
-      seats : (σ side : Side) → Meant σ c w → (partyIn w side).own.attached ≡ false → (r : List ℕ) → Meant σ c (record { region = r; bench = seat w.bench side (attached w.region side count); trace = w.trace })
+      seats : (σ side : Side) → Meant σ c w → (party_in w side).own.attached ≡ false → (r : List ℕ) → Meant σ c (record { region = r; bench = seat w.bench side (attached w.region side count); trace = w.trace })
       seats Sender Sender y n r = record { keeps = new Sender y.keeps n; under = tt }
       seats Recorder Sender y n r = record { keeps = y.keeps; under = y.under }
       seats Sender Recorder y n r = record { keeps = y.keeps; under = y.under }
       seats Recorder Recorder y n r = record { keeps = new Recorder y.keeps n; under = tt }
 
-      by : (b : Bool) → eqb (number (attachAnswer w.region side count)) 0 ≡ b → Meant σ c (happens (attaches side count) w)
+      by : (b : Bool) → eqb (number (attach_answer w.region side count)) 0 ≡ b → Meant σ c (happens (attaches side count) w)
       by true e = rw e (seats σ side y (fresh e) _)
       by false e = rw e (record { keeps = y.keeps; under = y.under })
 
-  meant-happens : (σ : Side) (h : Happening) (w : World) → Real P S v on w → (c : Call) → Meant σ c w → Meant σ (callAfter σ h w c) (happens h w)
-  unfolding happens played playedLeaves settled pushSpec popSpec closeSpec shutSpec spuriousSpec timeoutSpec
+  meant-happens : (σ : Side) (h : Happening) (w : World) → Real P S v on w → (c : Call) → Meant σ c w → Meant σ (call_after σ h w c) (happens h w)
+  unfolding happens played played_leaves settled push_spec pop_spec close_spec shut_spec spurious_spec timeout_spec
   meant-happens σ (attaches side count) w real c y = meant-attach σ side count w real c y
   meant-happens σ (plays (Turn side) i o) w real c y = meant-turn P S v on power-ok Slot-ok σ side w real i o Fine c y
   meant-happens σ (plays (Failing side e) i o) w real c y = meant-turn P S v on power-ok Slot-ok σ side w real i o (Error e) c y
   meant-happens Sender (plays (Spurious Sender) i o) w real c y =
       let p = w.bench.sender in
-      let h = roused-keeps (Holds Sender w.trace c) p (sound Sender p) (isSleeping (stanceOf p.step)) (reply (at Look p) GoesOn) (y.keeps, y.under) (risen Sender w.trace c p Look refl (y.keeps, y.under)) in
+      let h = roused-keeps (Holds Sender w.trace c) p (sound Sender p) (is_sleeping (stance_of p.step)) (reply (at Look p) GoesOn) (y.keeps, y.under) (risen Sender w.trace c p Look refl (y.keeps, y.under)) in
       record { keeps = h.0; under = h.1 }
   meant-happens Recorder (plays (Spurious Recorder) i o) w real c y =
       let p = w.bench.recorder in
-      let h = roused-keeps (Holds Recorder w.trace c) p (sound Recorder p) (isSleeping (stanceOf p.step)) (reply (at Look p) GoesOn) (y.keeps, y.under) (risen Recorder w.trace c p Look refl (y.keeps, y.under)) in
+      let h = roused-keeps (Holds Recorder w.trace c) p (sound Recorder p) (is_sleeping (stance_of p.step)) (reply (at Look p) GoesOn) (y.keeps, y.under) (risen Recorder w.trace c p Look refl (y.keeps, y.under)) in
       record { keeps = h.0; under = h.1 }
   meant-happens Recorder (plays (Spurious Sender) i o) w real c y = record { keeps = y.keeps; under = y.under }
   meant-happens Sender (plays (Spurious Recorder) i o) w real c y = record { keeps = y.keeps; under = y.under }
   meant-happens Sender (plays (TimeOut Sender) i o) w real c y =
       let p = w.bench.sender in
-      let h = roused-keeps (Holds Sender w.trace c) p (sound Sender p) (isSleeping (stanceOf p.step)) (reply (at (LastLook true) p) GoesOn) (y.keeps, y.under) (risen Sender w.trace c p (LastLook true) refl (y.keeps, y.under)) in
+      let h = roused-keeps (Holds Sender w.trace c) p (sound Sender p) (is_sleeping (stance_of p.step)) (reply (at (LastLook true) p) GoesOn) (y.keeps, y.under) (risen Sender w.trace c p (LastLook true) refl (y.keeps, y.under)) in
       record { keeps = h.0; under = h.1 }
   meant-happens Recorder (plays (TimeOut Recorder) i o) w real c y =
       let p = w.bench.recorder in
-      let h = roused-keeps (Holds Recorder w.trace c) p (sound Recorder p) (isSleeping (stanceOf p.step)) (reply (at (LastLook true) p) GoesOn) (y.keeps, y.under) (risen Recorder w.trace c p (LastLook true) refl (y.keeps, y.under)) in
+      let h = roused-keeps (Holds Recorder w.trace c) p (sound Recorder p) (is_sleeping (stance_of p.step)) (reply (at (LastLook true) p) GoesOn) (y.keeps, y.under) (risen Recorder w.trace c p (LastLook true) refl (y.keeps, y.under)) in
       record { keeps = h.0; under = h.1 }
   meant-happens Recorder (plays (TimeOut Sender) i o) w real c y = record { keeps = y.keeps; under = y.under }
   meant-happens Sender (plays (TimeOut Recorder) i o) w real c y = record { keeps = y.keeps; under = y.under }
   meant-happens Sender (plays (Push b k l) i o) w real c y =
       let p = w.bench.sender in
       let d : Call = record { last = true; blocking = b; tag = k; length = l; before = w.trace.sent; copied = [] } in
-      let h = begun-keeps (Holds Sender w.trace) p (ready Sender p) p.closed (b && not p.own.notfull) (not (leb l (payloadCapacity p.own.slot))) (named b k l p) c d (y.keeps, y.under)
+      let h = begun-keeps (Holds Sender w.trace) p (ready Sender p) p.closed (b && not p.own.notfull) (not (leb l (payload_capacity p.own.slot))) (named b k l p) c d (y.keeps, y.under)
       (λ e. (record { blocking = refl; tag = refl; length = refl; fresh = λ f. never Sender p e f }, record { last = refl; same = refl; none = refl })) in
       record { keeps = h.0; under = h.1 }
   meant-happens Recorder (plays (Push b k l) i o) w real c y = record { keeps = y.keeps; under = y.under }
@@ -475,12 +475,12 @@ module _ (P S v : ℕ) (on : Bool) (power-ok : powerOk P ≡ true) (Slot-ok : sl
   pub meant-run : (σ : Side) (hs : List Happening) (w : World) → AllTyped hs → Real P S v on w → (c : Call) → Meant σ c w → Meant σ (call_by σ hs w c) (run hs w)
   unfolding run
   meant-run σ [] w t real c y = y
-  meant-run σ (h ∷ hs) w t real c y = meant-run σ hs (happens h w) t.1 (real-happens P S v on power-ok Slot-ok h w t.0 real) (callAfter σ h w c) (meant-happens σ h w real c y)
+  meant-run σ (h ∷ hs) w t real c y = meant-run σ hs (happens h w) t.1 (real-happens P S v on power-ok Slot-ok h w t.0 real) (call_after σ h w c) (meant-happens σ h w real c y)
 
 module _ (r : List ℕ) (P S : ℕ) (on : Bool) (v : ℕ) (fresh : Fresh r P S on v) where
-  meant-start : (σ : Side) → Meant σ noCall (opened (created r P S on v))
+  meant-start : (σ : Side) → Meant σ no_call (opened (created r P S on v))
   meant-start Sender = record { keeps = record { blocking = refl; tag = refl; length = refl; fresh = λ e. (refl, (refl, refl)) }; under = tt }
   meant-start Recorder = record { keeps = record { blocking = refl; tag = refl; length = refl; fresh = λ e. (refl, (refl, refl)) }; under = tt }
 
   pub meant-reached : (σ : Side) (hs : List Happening) → AllTyped hs → Meant σ (call_of r P S on v σ hs) (reached r P S on v hs)
-  meant-reached σ hs t = meant-run P S v on (power-fits r P S on v fresh) (slot-fits r P S on v fresh) σ hs (opened (created r P S on v)) t (real-start r P S on v fresh) noCall (meant-start σ)
+  meant-reached σ hs t = meant-run P S v on (power-fits r P S on v fresh) (slot-fits r P S on v fresh) σ hs (opened (created r P S on v)) t (real-start r P S on v fresh) no_call (meant-start σ)

@@ -7,28 +7,28 @@ use Prim.Native.Nat.{ℕ, zero, suc, ◌+◌, ◌*◌, ◌-◌, ◌<◌, ◌≤�
 use native.Mathlib.Omega.{arith}
 use lib.ListN.{length}
 use lib.Seq.{take_all}
-use Rattle.words.specs.Le.{leAt}
+use Rattle.words.specs.Le.{le_at}
 use Rattle.types.specs.Pick.{pick}
 use Rattle.types.specs.declared.Side.{Side}
 use Rattle.types.specs.declared.Side.TheVariants.{Sender, Recorder}
 use Rattle.types.specs.declared.Step.{Step}
 use Rattle.types.specs.declared.Step.TheVariants.{Rest, Look, Asleep}
-use Rattle.layout.specs.Limits.{powerOk, slotOk, capacity}
-use Rattle.layout.specs.Header.{flagsAt}
+use Rattle.layout.specs.Limits.{power_ok, slot_ok, capacity}
+use Rattle.layout.specs.Header.{flags_at}
 use Rattle.layout.proofs.SizeLaws.{capacity-least}
-use Rattle.rules.specs.Sides.{other, rings, sameSide}
-use Rattle.rules.specs.Take.{stanceOf}
-use Rattle.rules.specs.Run.{World, Happening, partyIn, happens, run, rungOf}
+use Rattle.rules.specs.Sides.{other, rings, same_side}
+use Rattle.rules.specs.Take.{stance_of}
+use Rattle.rules.specs.Run.{World, Happening, party_in, happens, run, rung_of}
 use Rattle.rules.specs.Premises.{AllTyped, Fair, AllFair}
-use Rattle.rules.specs.Stretch.{calling, tickBy, Wills}
+use Rattle.rules.specs.Stretch.{calling, tick_by, Wills}
 use Rattle.rules.specs.Claims.{waiting, Fresh, reached}
-use Rattle.rules.specs.Both.{doneBy, turnsBy, WillingAmid, TakesPart, Round, Rounds, playedOut, Ringing, checking, raising, waking, close-raising, close-waking, shut-raising, shut-waking, shut-raising-ne, shut-waking-ne, shut-raising-nf, shut-waking-nf, WholeNight}
+use Rattle.rules.specs.Both.{done_by, turns_by, WillingAmid, TakesPart, Round, Rounds, played_out, Ringing, checking, raising, waking, close-raising, close-waking, shut-raising, shut-waking, shut-raising-ne, shut-waking-ne, shut-raising-nf, shut-waking-nf, WholeNight}
 use Rattle.rules.specs.Phase.{sleeps, phase}
 use Rattle.rules.proofs.Views.{kind}
 use Rattle.rules.proofs.Leads.{Leads, stop_at}
 use Rattle.rules.proofs.Does.{less}
-use Rattle.rules.proofs.Heard.{Due, duty, roomBy}
-use Rattle.rules.proofs.Costs.{extra, ahead, cost, cost-le, cost-slack, Calls, ownRoom, calls-on}
+use Rattle.rules.proofs.Heard.{Due, duty, room_by}
+use Rattle.rules.proofs.Costs.{extra, ahead, cost, cost-le, cost-slack, Calls, own_room, calls-on}
 use Rattle.rules.proofs.Listening.{ReadyAt}
 use Rattle.rules.proofs.RealCalls.{Idle}
 use Rattle.rules.proofs.Fairly.{Ready, ready-happens, idle-duty}
@@ -37,22 +37,22 @@ use Rattle.rules.proofs.Causes.{ready-reached}
 use Rattle.rules.proofs.Bound.{own-room-none, moves-call, by-calling, turn-cost}
 use Rattle.rules.proofs.Asks.{Asked, asked-calls, asked-cost, in-call}
 use Rattle.rules.proofs.Deeds.{Goes, Stays, Deed, deed, goes, stays, count-run}
-use Rattle.rules.proofs.WaitFree.{Bright, bright-more, bright-on, rest-stays, sleep-stays, toStores, stores-most, stride, asked-soon, which, own-most, rung-more}
+use Rattle.rules.proofs.WaitFree.{Bright, bright-more, bright-on, rest-stays, sleep-stays, to_stores, stores-most, stride, asked-soon, which, own-most, rung-more}
 use Rattle.rules.proofs.BeingRung.{ringing}
 use Rattle.rules.proofs.Rousing.{rings-moves, rings-some, nearer-wake}
 use Rattle.rules.proofs.NeverStill.{Few, few-deed, few-reached, due-calls, Dull, shine, tries-bright}
-use Rattle.rules.proofs.Real.{count_of, roomIn, Real}
+use Rattle.rules.proofs.Real.{count_of, room_in, Real}
 use Rattle.rules.proofs.Dull.{dull-bright, dulls, dull-on, asked-dull, asked-same, dull-waits, ring-three, ring-two, stores-mono, cost-more, cost-filled, cost-some, cost-at, stores_at, stores_some, publish-least, publish-cost, slack-two, sent-leaves, taken-leaves, gives-room, stores-or, Poised, Looking, Onto, Dulls, at-gate, at-wait, at-sleep}
 
 module _ (P S v : ℕ) (on : Bool) (goal : ℕ) where
   abbrev room : Side → World → ℕ
-  room σ w = roomIn P S v on σ w.trace
+  room σ w = room_in P S v on σ w.trace
 
   abbrev step : Side → World → Step
-  step σ w = (partyIn w σ).step
+  step σ w = (party_in w σ).step
 
   abbrev rung : Side → World → ℕ
-  rung σ w = rungOf σ w.trace
+  rung σ w = rung_of σ w.trace
 
   -- the notes that are left to a side
   abbrev left : Side → World → ℕ
@@ -61,7 +61,7 @@ module _ (P S v : ℕ) (on : Bool) (goal : ℕ) where
   -- how far a side is from its end, in its turns, where it presses on: the sender takes 6 for each note, and its last has yet to be taken; the
   -- recorder takes T2's, and 2 more for each note that is yet to be sent, which may find the ring full
   abbrev far : Side → World → ℕ
-  far Sender w = toStores (step Sender w) (left Sender w + 1)
+  far Sender w = to_stores (step Sender w) (left Sender w + 1)
   far Recorder w = cost (step Recorder w) (left Recorder w) (room Sender w) + 2 * left Sender w
 
   -- and where it may sleep, apart from the turns to its ring
@@ -83,8 +83,8 @@ module _ (P S v : ℕ) (on : Bool) (goal : ℕ) where
   Shape σ τ w = Bright (phase (step σ w)) (rung σ w) ⊎ Dulled σ τ w
 
   shape : (h : Bool) (σ τ : Side) (w : World) → ReadyAt P S v on h σ τ w → Calls (phase (step τ w)) → Few P S v on τ σ w → (k : ℕ) → room σ w ≡ suc k → Shape σ τ w
-  shape false σ τ w y c f k e = inl (tries-bright (partyIn w σ).blocking (phase (step σ w)) (rung σ w) y)
-  shape true σ τ w y c f k e = by (shine (phase (step σ w)) (rung σ w) k (stop_at σ (leAt 4 w.region flagsAt)) (duty τ (step τ w)) (rw e at y))
+  shape false σ τ w y c f k e = inl (tries-bright (party_in w σ).blocking (phase (step σ w)) (rung σ w) y)
+  shape true σ τ w y c f k e = by (shine (phase (step σ w)) (rung σ w) k (stop_at σ (le_at 4 w.region flags_at)) (duty τ (step τ w)) (rw e at y))
     where
       by : Bright (phase (step σ w)) (rung σ w) ⊎ (Dull (phase (step σ w)) (rung σ w) × (Due true (duty τ (step τ w)) (suc k) × (Due false (duty τ (step τ w)) (suc k) ⊎ (phase (step σ w) ≡ sleeps)))) → Shape σ τ w
       by (inl b) = inl b
@@ -117,17 +117,17 @@ module _ (P S v : ℕ) (on : Bool) (goal : ℕ) where
 
   -- a turn of its own takes one off the way of a side that presses on
   own-far : (σ : Side) (h : Happening) (w u : World) (n : ℕ) → Goes P S v on h σ w u → Wills σ h w → Calls (phase (step σ w)) → Bright (phase (step σ w)) (rung σ w) → 0 < room σ w → count_of σ w.trace < goal → count_of σ u.trace < goal
-      → far σ w ≤ tickBy calling h w + n → far σ u ≤ n
+      → far σ w ≤ tick_by calling h w + n → far σ u ≤ n
   own-far Sender h w u n d x c b r l l' f =
       omega (
         arith,
-        stores-mono (step Sender u) (left Sender u + 1) (ownRoom (step Sender w) (left Sender w + 1)) (omega (arith, d.own-count (left Sender w + 1), d.own-count (left Sender w))),
+        stores-mono (step Sender u) (left Sender u + 1) (own_room (step Sender w) (left Sender w + 1)) (omega (arith, d.own-count (left Sender w + 1), d.own-count (left Sender w))),
         stride calling by-calling d.sight (left Sender w + 1) (λ a. omega (arith, d.room)) n (rung Sender w) (step Sender w) (step Sender u) d.leads (kind (step Sender w)) c (d.fits x) (λ e a. b) (omega (arith, d.tick calling)),
       )
   own-far Recorder h w u n d x c b r l l' f =
       let some = cost-some (step Recorder w) (left Recorder w) (room Sender w) (omega arith) in
       let t = d.tick calling in
-      let most : tickBy calling h w ≤ 1 = omega (arith, one-most (calling (stanceOf (step Recorder w)))) in
+      let most : tick_by calling h w ≤ 1 = omega (arith, one-most (calling (stance_of (step Recorder w)))) in
       let same : left Sender u ≡ left Sender w = ap (λ (k : ℕ). goal - k) d.other-count in
       let turn =
       turn-cost calling by-calling d.sight (left Recorder w) (λ a. omega (arith, d.room)) (n - 2 * left Sender w) (step Recorder w) (step Recorder u) d.leads (kind (step Recorder w)) c
@@ -136,8 +136,8 @@ module _ (P S v : ℕ) (on : Bool) (goal : ℕ) where
       (λ e a q. subst (λ (s : Step). Bright (phase s) (rung Recorder w)) q b) (λ a. d.fits x) (rw d.theirs (omega arith)) in
       omega (
         arith,
-        subst (λ (k : ℕ). cost (step Recorder u) (ownRoom (step Recorder w) (left Recorder w)) k ≤ n - 2 * left Sender w) (ap (roomBy (step Recorder w)) d.theirs ∙ sym d.other-room) turn,
-        cost-more (step Recorder u) (left Recorder u) (ownRoom (step Recorder w) (left Recorder w)) (room Sender u) (omega (arith, d.own-count (left Recorder w))),
+        subst (λ (k : ℕ). cost (step Recorder u) (own_room (step Recorder w) (left Recorder w)) k ≤ n - 2 * left Sender w) (ap (room_by (step Recorder w)) d.theirs ∙ sym d.other-room) turn,
+        cost-more (step Recorder u) (left Recorder u) (own_room (step Recorder w) (left Recorder w)) (room Sender u) (omega (arith, d.own-count (left Recorder w))),
       )
     where
       one-most : (b : Bool) → pick b 1 0 ≤ 1
@@ -161,7 +161,7 @@ module _ (P S v : ℕ) (on : Bool) (goal : ℕ) where
       rw e (subst (λ (k : ℕ). cost (step Recorder w) k (room Sender u) + 2 * left Sender u ≤ cost (step Recorder w) (left Recorder w) (room Sender w) + 2 * left Sender w)
       (sym (ap (λ (k : ℕ). goal - k) d.other-count)) (by (stores-or (step Sender w))))
     where
-      by : ((k : ℕ) → ownRoom (step Sender w) k ≡ k) ⊎ ((k : ℕ) → ownRoom (step Sender w) k ≡ less k)
+      by : ((k : ℕ) → own_room (step Sender w) k ≡ k) ⊎ ((k : ℕ) → own_room (step Sender w) k ≡ less k)
           → cost (step Recorder w) (left Recorder w) (room Sender u) + 2 * left Sender u ≤ cost (step Recorder w) (left Recorder w) (room Sender w) + 2 * left Sender w
       by (inl f) = rw (d.own_room ∙ f (room Sender w)) (omega (arith, d.own-count 0, f 0))
       by (inr f) =
@@ -177,7 +177,7 @@ module _ (P S v : ℕ) (on : Bool) (goal : ℕ) where
   their-mass Recorder h w u d = omega (arith, d.other-count)
 
   -- one that rings gives no room
-  rings-room : (k m : ℕ) (τ : Side) (s : Step) → Ringing k τ s m → (j : ℕ) → roomBy s j ≡ j
+  rings-room : (k m : ℕ) (τ : Side) (s : Step) → Ringing k τ s m → (j : ℕ) → room_by s j ≡ j
   rings-room k m τ s (checking e) j = refl
   rings-room k m τ s raising j = refl
   rings-room k m τ s waking j = refl
@@ -191,7 +191,7 @@ module _ (P S v : ℕ) (on : Bool) (goal : ℕ) where
   rings-room k m τ s shut-waking-nf j = refl
 
   -- a party's own doings
-  module _ (cap : 2 ≤ capacity P) (n i j i' : ℕ) (few : j ≤ 1) (h : Happening) (w u : World) (σ : Side) (turn : i ≤ tickBy calling h w + i') (will : Wills σ h w) (x : Part σ (other σ) n i j w)
+  module _ (cap : 2 ≤ capacity P) (n i j i' : ℕ) (few : j ≤ 1) (h : Happening) (w u : World) (σ : Side) (turn : i ≤ tick_by calling h w + i') (will : Wills σ h w) (x : Part σ (other σ) n i j w)
       (how : 0 < room σ w → Shape σ (other σ) w) where
     module _ (d : Goes P S v on h σ w u) (fair : Fair σ h w) (calls : Calls (phase (step σ w))) (room-left : 0 < room σ u) (short : count_of σ u.trace < goal) where
       room_was : 0 < room σ w
@@ -267,7 +267,7 @@ module _ (P S v : ℕ) (on : Bool) (goal : ℕ) where
           }
 
   -- the other's doings: here τ moves. `gives` is where it gives room to one without any
-  module _ (cap : 2 ≤ capacity P) (n i j j' : ℕ) (few : j ≤ 1) (h : Happening) (w u : World) (τ : Side) (turn : j ≤ tickBy calling h w + j') (x : Part (other τ) τ n i j w)
+  module _ (cap : 2 ≤ capacity P) (n i j j' : ℕ) (few : j ≤ 1) (h : Happening) (w u : World) (τ : Side) (turn : j ≤ tick_by calling h w + j') (x : Part (other τ) τ n i j w)
       (how : (k : ℕ) → room (other τ) w ≡ suc k → Shape (other τ) τ w) where
     abbrev Woken : Type 0
     Woken = (step (other τ) u ≡ step (other τ) w) ⊎ ((step (other τ) w ≡ Asleep) × (step (other τ) u ≡ Look))
@@ -316,7 +316,7 @@ module _ (P S v : ℕ) (on : Bool) (goal : ℕ) where
             let z = x.dim had-room short-before y.dull y.k y.m y.ring in
             let f = nearer-wake d.sight y.k k y.m m τ (step τ w) (step τ u) y.ring d.leads r in
             let g = their-mass τ h w u d in
-            let t : tickBy calling h w ≡ 1 = d.tick calling ∙ ap (λ (b : Bool). pick b 1 0) (moves-call (stanceOf (step τ w)) (rings-moves _ _ τ (step τ w) y.ring).0) in
+            let t : tick_by calling h w ≡ 1 = d.tick calling ∙ ap (λ (b : Bool). pick b 1 0) (moves-call (stance_of (step τ w)) (rings-moves _ _ τ (step τ w) y.ring).0) in
             (omega (arith, z.0), λ p. omega (arith, z.1 (rw q at p)))
 
       their-near : Bright (phase (step (other τ) u)) (rung (other τ) u) → far (other τ) u ≤ n + i
@@ -400,7 +400,7 @@ module _ (P S v : ℕ) (on : Bool) (goal : ℕ) where
     recorder : Part Recorder Sender n r s w
 
   module _ (cap : 2 ≤ capacity P) (n : ℕ) (h : Happening) (w u : World) (then : Night u) (top : count_of Sender u.trace ≤ goal) where
-    sender-deed : (s s' r : ℕ) → s ≤ 1 → r ≤ 1 → s ≤ tickBy calling h w + s' → Wills Sender h w → Fair Sender h w → Both n s r w → Deed P S v on h Sender w u → Both n s' r u
+    sender-deed : (s s' r : ℕ) → s ≤ 1 → r ≤ 1 → s ≤ tick_by calling h w + s' → Wills Sender h w → Fair Sender h w → Both n s r w → Deed P S v on h Sender w u → Both n s' r u
     sender-deed s s' r a b t x f y (stays d) =
         record {
           night = then;
@@ -416,20 +416,20 @@ module _ (P S v : ℕ) (on : Bool) (goal : ℕ) where
       where
         gives : count_of Recorder u.trace < goal → 0 < room Recorder u → room Recorder w ≡ 0 → (far Recorder u ≤ n) × (mass Recorder u ≤ n)
         gives c p e =
-            let g = gives-room (step Sender w) (subst (λ (k : ℕ). 0 < roomBy (step Sender w) k) e (subst (λ (k : ℕ). 0 < k) d.other-room p)) in
+            let g = gives-room (step Sender w) (subst (λ (k : ℕ). 0 < room_by (step Sender w) k) e (subst (λ (k : ℕ). 0 < k) d.other-room p)) in
             let at = g.1.1 in
             let q = y.night.real.queue.below in
             let o = d.other-count in
-            let free : room Sender u ≡ less (room Sender w) = d.own_room ∙ ap (λ (z : Step). ownRoom z (room Sender w)) at in
+            let free : room Sender u ≡ less (room Sender w) = d.own_room ∙ ap (λ (z : Step). own_room z (room Sender w)) at in
             let slot = less-some (room Sender w) (omega arith) in
-            let sent : count_of Sender w.trace + 1 ≤ count_of Sender u.trace = omega (arith, d.own-count 1, ap (λ (z : Step). ownRoom z 1) at) in
+            let sent : count_of Sender w.trace + 1 ≤ count_of Sender u.trace = omega (arith, d.own-count 1, ap (λ (z : Step). own_room z 1) at) in
             let bright : Bright (phase (step Sender w)) (rung Sender w) = rw at tt in
-            let enough = subst (λ (z : Step). toStores z (left Sender w + 1) ≤ n + s) at (y.sender.near (omega arith) (omega arith) bright) in
+            let enough = subst (λ (z : Step). to_stores z (left Sender w + 1) ≤ n + s) at (y.sender.near (omega arith) (omega arith) bright) in
             let taken : count_of Recorder u.trace ≡ count_of Sender w.trace = omega arith in
             sent-leaves (left Sender w) (left Sender u) (left Recorder u) _ n s _ _ (publish-least g.0 g.1.0 (left Sender w + 1)) enough a (ap (λ (k : ℕ). goal - k) taken) (omega arith)
             (slack-two (room Sender u) (omega arith)) (cost-slack (step Recorder u) (left Recorder u) (room Sender u))
 
-    recorder-deed : (s r r' : ℕ) → s ≤ 1 → r ≤ 1 → r ≤ tickBy calling h w + r' → Wills Recorder h w → Fair Recorder h w → Both n s r w → Deed P S v on h Recorder w u → Both n s r' u
+    recorder-deed : (s r r' : ℕ) → s ≤ 1 → r ≤ 1 → r ≤ tick_by calling h w + r' → Wills Recorder h w → Fair Recorder h w → Both n s r w → Deed P S v on h Recorder w u → Both n s r' u
     recorder-deed s r r' a b t x f y (stays d) =
         record {
           night = then;
@@ -445,7 +445,7 @@ module _ (P S v : ℕ) (on : Bool) (goal : ℕ) where
       where
         gives : count_of Sender u.trace < goal → 0 < room Sender u → room Sender w ≡ 0 → (far Sender u ≤ n) × (mass Sender u ≤ n)
         gives c p e =
-            let g = gives-room (step Recorder w) (subst (λ (k : ℕ). 0 < roomBy (step Recorder w) k) e (subst (λ (k : ℕ). 0 < k) d.other-room p)) in
+            let g = gives-room (step Recorder w) (subst (λ (k : ℕ). 0 < room_by (step Recorder w) k) e (subst (λ (k : ℕ). 0 < k) d.other-room p)) in
             let at = g.1.1 in
             let q = y.night.real.queue.above in
             let o = d.other-count in
@@ -456,36 +456,36 @@ module _ (P S v : ℕ) (on : Bool) (goal : ℕ) where
             (stores-most (step Sender u) (left Sender u + 1))
 
     one-deed : (s r : ℕ) → s ≤ 1 → r ≤ 1 → (m : Side) → Deed P S v on h m w u → ((side : Side) → m ≡ side → Wills side h w) → ((side : Side) → Fair side h w) → Both n s r w
-        → Both n (s - pick (sameSide Sender m) (tickBy calling h w) 0) (r - pick (sameSide Recorder m) (tickBy calling h w) 0) u
-    one-deed s r a b Sender d x f y = sender-deed s (s - tickBy calling h w) (r - 0) a (omega arith) (omega arith) (x Sender refl) (f Sender) (still s r (r - 0) (omega arith) y) d
+        → Both n (s - pick (same_side Sender m) (tick_by calling h w) 0) (r - pick (same_side Recorder m) (tick_by calling h w) 0) u
+    one-deed s r a b Sender d x f y = sender-deed s (s - tick_by calling h w) (r - 0) a (omega arith) (omega arith) (x Sender refl) (f Sender) (still s r (r - 0) (omega arith) y) d
       where
         still : (s r r' : ℕ) → r ≡ r' → Both n s r w → Both n s r' w
         still s r r' e y = subst (λ (z : ℕ). Both n s z w) e y
-    one-deed s r a b Recorder d x f y = recorder-deed (s - 0) r (r - tickBy calling h w) (omega arith) b (omega arith) (x Recorder refl) (f Recorder) (still s (s - 0) r (omega arith) y) d
+    one-deed s r a b Recorder d x f y = recorder-deed (s - 0) r (r - tick_by calling h w) (omega arith) b (omega arith) (x Recorder refl) (f Recorder) (still s (s - 0) r (omega arith) y) d
       where
         still : (s s' r : ℕ) → s ≡ s' → Both n s r w → Both n s' r w
         still s s' r e y = subst (λ (z : ℕ). Both n z r w) e y
 
   -- a willing party stays in its pushes and pops
-  calls-own : (h : Happening) (w u : World) (m : Side) → Deed P S v on h m w u → Wills m h w → Calls (phase (partyIn w m).step) → Calls (phase (partyIn u m).step)
-  calls-own h w u m (goes d) x c = calls-on d.sight (partyIn w m).step (partyIn u m).step d.leads c
-  calls-own h w u m (stays d) x c = asked-calls (partyIn w m).step (partyIn u m).step (d.asked x) c
+  calls-own : (h : Happening) (w u : World) (m : Side) → Deed P S v on h m w u → Wills m h w → Calls (phase (party_in w m).step) → Calls (phase (party_in u m).step)
+  calls-own h w u m (goes d) x c = calls-on d.sight (party_in w m).step (party_in u m).step d.leads c
+  calls-own h w u m (stays d) x c = asked-calls (party_in w m).step (party_in u m).step (d.asked x) c
 
-  calls-other : (h : Happening) (w u : World) (m : Side) → Deed P S v on h m w u → Calls (phase (partyIn w (other m)).step) → Calls (phase (partyIn u (other m)).step)
+  calls-other : (h : Happening) (w u : World) (m : Side) → Deed P S v on h m w u → Calls (phase (party_in w (other m)).step) → Calls (phase (party_in u (other m)).step)
   calls-other h w u m (stays d) c = rw d.other_step c
   calls-other h w u m (goes d) c = by d.woken
     where
-      by : ((partyIn u (other m)).step ≡ (partyIn w (other m)).step) ⊎ (((partyIn w (other m)).step ≡ Asleep) × ((partyIn u (other m)).step ≡ Look)) → Calls (phase (partyIn u (other m)).step)
+      by : ((party_in u (other m)).step ≡ (party_in w (other m)).step) ⊎ (((party_in w (other m)).step ≡ Asleep) × ((party_in u (other m)).step ≡ Look)) → Calls (phase (party_in u (other m)).step)
       by (inl e) = rw e c
       by (inr e) = rw e.1 tt
 
-  calls-deed : (h : Happening) (w u : World) (side m : Side) → Deed P S v on h m w u → (m ≡ side → Wills side h w) → Calls (phase (partyIn w side).step) → Calls (phase (partyIn u side).step)
+  calls-deed : (h : Happening) (w u : World) (side m : Side) → Deed P S v on h m w u → (m ≡ side → Wills side h w) → Calls (phase (party_in w side).step) → Calls (phase (party_in u side).step)
   calls-deed h w u Sender Sender d x c = calls-own h w u Sender d (x refl) c
   calls-deed h w u Sender Recorder d x c = calls-other h w u Recorder d c
   calls-deed h w u Recorder Sender d x c = calls-other h w u Sender d c
   calls-deed h w u Recorder Recorder d x c = calls-own h w u Recorder d (x refl) c
 
-  module _ (power-ok : powerOk P ≡ true) (Slot-ok : slotOk S ≡ true) (cap : 2 ≤ capacity P) where
+  module _ (power-ok : power_ok P ≡ true) (Slot-ok : slot_ok S ≡ true) (cap : 2 ≤ capacity P) where
     -- a stretch, fair to both, in which both are willing
     abbrev Fit : List Happening → World → Type 0
     Fit ms w = AllTyped ms × ((side : Side) → AllFair side ms w × WillingAmid side ms w)
@@ -493,7 +493,7 @@ module _ (P S v : ℕ) (on : Bool) (goal : ℕ) where
     tail-fits : (h : Happening) (ms : List Happening) (w : World) → Fit (h ∷ ms) w → Fit ms (happens h w)
     tail-fits h ms w f = (f.0.1, λ side. ((f.1 side).0.1, (f.1 side).1.1))
 
-    deed-here : (h : Happening) (ms : List Happening) (w : World) → Fit (h ∷ ms) w → Night w → Deed P S v on h (doneBy h) w (happens h w)
+    deed-here : (h : Happening) (ms : List Happening) (w : World) → Fit (h ∷ ms) w → Night w → Deed P S v on h (done_by h) w (happens h w)
     deed-here h ms w f y = deed P S v on power-ok Slot-ok h w f.0.0 y.real
 
     night-next : (h : Happening) (ms : List Happening) (w : World) → Fit (h ∷ ms) w → Night w → Night (happens h w)
@@ -501,19 +501,19 @@ module _ (P S v : ℕ) (on : Bool) (goal : ℕ) where
         record {
           real = real-happens P S v on power-ok Slot-ok h w f.0.0 y.real;
           ready = λ side. ready-happens P S v on power-ok Slot-ok side h w f.0.0 (f.1 side).0.0 y.real (y.ready side);
-          few = λ side. few-deed P S v on h w (happens h w) side (doneBy h) (deed-here h ms w f y) (y.few side);
-          calls = λ side. calls-deed h w (happens h w) side (doneBy h) (deed-here h ms w f y) (f.1 side).1.0 (y.calls side);
+          few = λ side. few-deed P S v on h w (happens h w) side (done_by h) (deed-here h ms w f y) (y.few side);
+          calls = λ side. calls-deed h w (happens h w) side (done_by h) (deed-here h ms w f y) (f.1 side).1.0 (y.calls side);
         }
 
     -- along a round
-    through : (n : ℕ) (ms : List Happening) (w : World) → Fit ms w → count_of Sender (run ms w).trace ≤ goal → (s r : ℕ) → s ≤ 1 → r ≤ 1 → s ≤ turnsBy calling Sender ms w → r ≤ turnsBy calling Recorder ms w → Both n s r w → Both n 0 0 (run ms w)
+    through : (n : ℕ) (ms : List Happening) (w : World) → Fit ms w → count_of Sender (run ms w).trace ≤ goal → (s r : ℕ) → s ≤ 1 → r ≤ 1 → s ≤ turns_by calling Sender ms w → r ≤ turns_by calling Recorder ms w → Both n s r w → Both n 0 0 (run ms w)
     unfolding run
     through n [] w f top s r a b p q y =
         record { night = y.night; sender = part-more Sender Recorder n s r n 0 0 w (omega arith) (omega arith) y.sender; recorder = part-more Recorder Sender n r s n 0 0 w (omega arith) (omega arith) y.recorder }
     through n (h ∷ ms) w f top s r a b p q y =
         let next = night-next h ms w f y.night in
-        through n ms (happens h w) (tail-fits h ms w f) top (s - pick (sameSide Sender (doneBy h)) (tickBy calling h w) 0) (r - pick (sameSide Recorder (doneBy h)) (tickBy calling h w) 0) (omega arith) (omega arith) (omega arith) (omega arith)
-        (one-deed cap n h w (happens h w) next (omega (arith, count-run P S v on power-ok Slot-ok Sender ms (happens h w) f.0.1 next.real)) s r a b (doneBy h) (deed-here h ms w f y.night) (λ side. (f.1 side).1.0) (λ side. (f.1 side).0.0) y)
+        through n ms (happens h w) (tail-fits h ms w f) top (s - pick (same_side Sender (done_by h)) (tick_by calling h w) 0) (r - pick (same_side Recorder (done_by h)) (tick_by calling h w) 0) (omega arith) (omega arith) (omega arith) (omega arith)
+        (one-deed cap n h w (happens h w) next (omega (arith, count-run P S v on power-ok Slot-ok Sender ms (happens h w) f.0.1 next.real)) s r a b (done_by h) (deed-here h ms w f y.night) (λ side. (f.1 side).1.0) (λ side. (f.1 side).0.0) y)
 
     -- a round: one fewer
     round : (n : ℕ) (ms : List Happening) (w : World) → Round goal ms w → count_of Sender (run ms w).trace ≤ goal → Both (suc n) 0 0 w → (goal ≤ count_of Recorder w.trace) ⊎ Both n 0 0 (run ms w)
@@ -557,13 +557,13 @@ module _ (P S v : ℕ) (on : Bool) (goal : ℕ) where
         by (inr c) = absurd (short c (room Recorder w) refl)
 
     -- what was published by then is published in the end
-    in-the-end : (rounds : List (List Happening)) (w : World) → Real P S v on w → Rounds goal rounds w → Real P S v on (playedOut rounds w) × ((side : Side) → count_of side w.trace ≤ count_of side (playedOut rounds w).trace)
+    in-the-end : (rounds : List (List Happening)) (w : World) → Real P S v on w → Rounds goal rounds w → Real P S v on (played_out rounds w) × ((side : Side) → count_of side w.trace ≤ count_of side (played_out rounds w).trace)
     in-the-end [] w y r = (y, λ side. omega arith)
     in-the-end (ms ∷ rounds) w y r =
         let z = in-the-end rounds (run ms w) (real-run P S v on power-ok Slot-ok ms w r.0.0 y) r.1 in
         (z.0, λ side. omega (arith, count-run P S v on power-ok Slot-ok side ms w r.0.0 y, z.1 side))
 
-    all-night : (rounds : List (List Happening)) (w : World) (n : ℕ) → n ≤ length rounds → Rounds goal rounds w → count_of Sender (playedOut rounds w).trace ≤ goal → Both n 0 0 w → goal ≤ count_of Recorder (playedOut rounds w).trace
+    all-night : (rounds : List (List Happening)) (w : World) (n : ℕ) → n ≤ length rounds → Rounds goal rounds w → count_of Sender (played_out rounds w).trace ≤ goal → Both n 0 0 w → goal ≤ count_of Recorder (played_out rounds w).trace
     all-night [] w zero l r top y = none_left w y
     all-night [] w (suc n) l r top y = absurd (omega arith)
     all-night (ms ∷ rounds) w zero l r top y = omega (arith, none_left w y, (in-the-end (ms ∷ rounds) w y.night.real r).1 Recorder)
@@ -580,7 +580,7 @@ module _ (r : List ℕ) (P S : ℕ) (on : Bool) (v : ℕ) (fresh : Fresh r P S o
       let goal = length w.trace.sent + n in
       let cap = capacity-least P power-ok in
       let real = real-reached r P S on v fresh hs t in
-      let calls : (side : Side) → Calls (phase (partyIn w side).step) = λ side. in-call (partyIn w side).step (c side) in
+      let calls : (side : Side) → Calls (phase (party_in w side).step) = λ side. in-call (party_in w side).step (c side) in
       let below = real.queue.below in
       let note = waiting-is r P S on v fresh hs t in
       let x' : length w.trace.sent + n - length w.trace.sent ≡ n = omega arith in
@@ -590,7 +590,7 @@ module _ (r : List ℕ) (P S : ℕ) (on : Bool) (v : ℕ) (fresh : Fresh r P S o
       all-night P S v on goal power-ok Slot-ok cap rounds w (length rounds) (omega arith) x top
       record {
         night = record { real = real; ready = λ side. ready-reached r P S on v fresh side hs t (f side); few = few-reached r P S on v fresh hs t; calls = calls };
-        sender = part-start P S v on goal Sender Recorder (length rounds) w (omega (arith, stores-most (partyIn w Sender).step (goal - length w.trace.sent + 1))) (omega arith) (calls Recorder);
-        recorder = part-start P S v on goal Recorder Sender (length rounds) w (omega (arith, cost-le (partyIn w Recorder).step (goal - length w.trace.delivered) (roomIn P S v on Sender w.trace))) (omega arith) (calls Sender);
+        sender = part-start P S v on goal Sender Recorder (length rounds) w (omega (arith, stores-most (party_in w Sender).step (goal - length w.trace.sent + 1))) (omega arith) (calls Recorder);
+        recorder = part-start P S v on goal Recorder Sender (length rounds) w (omega (arith, cost-le (party_in w Recorder).step (goal - length w.trace.delivered) (room_in P S v on Sender w.trace))) (omega arith) (calls Sender);
       } in
-      (omega (arith, end.0.queue.below), end.0.queue.order ∙ take_all (length (playedOut rounds w).trace.delivered) (playedOut rounds w).trace.sent (omega arith))
+      (omega (arith, end.0.queue.below), end.0.queue.order ∙ take_all (length (played_out rounds w).trace.delivered) (played_out rounds w).trace.sent (omega arith))

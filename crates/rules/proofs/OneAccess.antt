@@ -7,19 +7,19 @@ use Prim.Native.Nat.{ℕ, ◌+◌}
 use native.Mathlib.Omega.{arith}
 use lib.ListN.{length, get_or}
 use lib.Seq.{sets}
-use Rattle.words.specs.Le.{leAt, le_bytes, putLe}
+use Rattle.words.specs.Le.{le_at, le_bytes, put_le}
 use Rattle.words.specs.Wrap.{next}
 use Rattle.words.proofs.Sets.{Outside, sets-other}
-use Rattle.words.proofs.Laws.{length-leBytes}
+use Rattle.words.proofs.Laws.{length-le_bytes}
 use Rattle.types.specs.declared.Own.{Own}
 use Rattle.types.specs.declared.Access.{Access}
 use Rattle.types.specs.declared.Access.TheVariants.{None, LoadCounter, LoadFlags, LoadBell, WriteSlot, ReadSlot, StoreCounter, RaiseBell, SetFlag, WaitBell, WakeBell}
-use Rattle.layout.specs.Limits.{slotHeadBytes}
-use Rattle.layout.specs.Flags.{worth, setBit}
-use Rattle.layout.specs.Header.{flagsAt, counterAt, bellAt}
-use Rattle.layout.specs.Slots.{slotBytes, slotPut}
-use Rattle.layout.proofs.SlotLaws.{length-slotBytes}
-use Rattle.rules.specs.Access.{place_of, leavesOf, bufferOf}
+use Rattle.layout.specs.Limits.{slot_head_bytes}
+use Rattle.layout.specs.Flags.{worth, set_bit}
+use Rattle.layout.specs.Header.{flags_at, counter_at, bell_at}
+use Rattle.layout.specs.Slots.{slot_bytes, slot_put}
+use Rattle.layout.proofs.SlotLaws.{length-slot_bytes}
+use Rattle.rules.specs.Access.{place_of, leaves_of, buffer_of}
 
 -- where an access writes: one counter, one bell, the flags or one slot
 abbrev pub writes_at : Own → Access → ℕ
@@ -29,9 +29,9 @@ writes_at own LoadFlags = 0
 writes_at own (LoadBell b) = 0
 writes_at own (WriteSlot n) = place_of own n
 writes_at own (ReadSlot n) = 0
-writes_at own (StoreCounter side n) = counterAt side
-writes_at own (RaiseBell b) = bellAt b
-writes_at own (SetFlag m) = flagsAt
+writes_at own (StoreCounter side n) = counter_at side
+writes_at own (RaiseBell b) = bell_at b
+writes_at own (SetFlag m) = flags_at
 writes_at own (WaitBell b e) = 0
 writes_at own (WakeBell b n) = 0
 
@@ -41,7 +41,7 @@ writes None payload = 0
 writes (LoadCounter side) payload = 0
 writes LoadFlags payload = 0
 writes (LoadBell b) payload = 0
-writes (WriteSlot n) payload = slotHeadBytes + payload
+writes (WriteSlot n) payload = slot_head_bytes + payload
 writes (ReadSlot n) payload = 0
 writes (StoreCounter side n) payload = 8
 writes (RaiseBell b) payload = 4
@@ -70,11 +70,11 @@ module _ (region : List ℕ) (own : Own) (tag : ℕ) (payload : List ℕ) where
   written (LoadCounter side) = []
   written LoadFlags = []
   written (LoadBell b) = []
-  written (WriteSlot n) = slotBytes tag payload
+  written (WriteSlot n) = slot_bytes tag payload
   written (ReadSlot n) = []
   written (StoreCounter side n) = le_bytes 8 n
-  written (RaiseBell b) = le_bytes 4 (next 32 (leAt 4 region (bellAt b)))
-  written (SetFlag m) = le_bytes 4 (setBit (worth m) (leAt 4 region flagsAt))
+  written (RaiseBell b) = le_bytes 4 (next 32 (le_at 4 region (bell_at b)))
+  written (SetFlag m) = le_bytes 4 (set_bit (worth m) (le_at 4 region flags_at))
   written (WaitBell b e) = []
   written (WakeBell b n) = []
 
@@ -83,16 +83,16 @@ module _ (region : List ℕ) (own : Own) (tag : ℕ) (payload : List ℕ) where
   length-written (LoadCounter side) = refl
   length-written LoadFlags = refl
   length-written (LoadBell b) = refl
-  length-written (WriteSlot n) = length-slotBytes tag payload
+  length-written (WriteSlot n) = length-slot_bytes tag payload
   length-written (ReadSlot n) = refl
-  length-written (StoreCounter side n) = length-leBytes 8 n
-  length-written (RaiseBell b) = length-leBytes 4 (next 32 (leAt 4 region (bellAt b)))
-  length-written (SetFlag m) = length-leBytes 4 (setBit (worth m) (leAt 4 region flagsAt))
+  length-written (StoreCounter side n) = length-le_bytes 8 n
+  length-written (RaiseBell b) = length-le_bytes 4 (next 32 (le_at 4 region (bell_at b)))
+  length-written (SetFlag m) = length-le_bytes 4 (set_bit (worth m) (le_at 4 region flags_at))
   length-written (WaitBell b e) = refl
   length-written (WakeBell b n) = refl
 
-  pub one-run : (a : Access) → leavesOf region own a tag payload ≡ sets region (writes_at own a) (written a)
-  unfolding leavesOf slotPut putLe
+  pub one-run : (a : Access) → leaves_of region own a tag payload ≡ sets region (writes_at own a) (written a)
+  unfolding leaves_of slot_put put_le
   one-run None = refl
   one-run (LoadCounter side) = refl
   one-run LoadFlags = refl
@@ -106,7 +106,7 @@ module _ (region : List ℕ) (own : Own) (tag : ℕ) (payload : List ℕ) where
   one-run (WakeBell b n) = refl
 
   -- every other byte is as it was
-  pub leaves-other : (a : Access) (k : ℕ) → Outside k (writes_at own a) (writes a (length payload)) → get_or (leavesOf region own a tag payload) k 0 ≡ get_or region k 0
+  pub leaves-other : (a : Access) (k : ℕ) → Outside k (writes_at own a) (writes a (length payload)) → get_or (leaves_of region own a tag payload) k 0 ≡ get_or region k 0
   leaves-other a k o = rw one-run (sets-other region (writes_at own a) (written a) k 0 (rw length-written o))
 
   none_written : (vs : List ℕ) (i : ℕ) → length vs ≡ 0 → sets region i vs ≡ region
@@ -114,11 +114,11 @@ module _ (region : List ℕ) (own : Own) (tag : ℕ) (payload : List ℕ) where
   none_written (v ∷ vs) i z = absurd (omega arith)
 
   -- and all of them where none is written
-  pub leaves_all : (a : Access) → writes a (length payload) ≡ 0 → leavesOf region own a tag payload ≡ region
+  pub leaves_all : (a : Access) → writes a (length payload) ≡ 0 → leaves_of region own a tag payload ≡ region
   leaves_all a z = one-run a ∙ none_written (written a) (writes_at own a) (length-written a ∙ z)
 
-pub buffer-same : (region : List ℕ) (own : Own) (a : Access) (named : ℕ) (buffer : List ℕ) → gives a ≡ false → bufferOf region own a named buffer ≡ buffer
-unfolding bufferOf
+pub buffer-same : (region : List ℕ) (own : Own) (a : Access) (named : ℕ) (buffer : List ℕ) → gives a ≡ false → buffer_of region own a named buffer ≡ buffer
+unfolding buffer_of
 buffer-same region own None named buffer z = refl
 buffer-same region own (LoadCounter side) named buffer z = refl
 buffer-same region own LoadFlags named buffer z = refl

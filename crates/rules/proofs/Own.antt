@@ -6,17 +6,17 @@ use native.Mathlib.Omega.{arith}
 use Rattle.types.specs.declared.Step.{Step}
 use Rattle.types.specs.declared.Step.TheVariants.{Wait}
 use Rattle.rules.specs.Phase.{Phase, resting, looking, copying, publishing, telling, asking, armed, poised, waits, sleeps, glancing, leaving, phase}
-use Rattle.rules.specs.Stretch.{holdsEpochAt}
+use Rattle.rules.specs.Stretch.{holds_epoch_at}
 use Rattle.rules.proofs.Views.{awake}
 use Rattle.rules.proofs.Leads.{Sight, asks, barred, Leads, idles, finds, blocks, gives_up, copies, spills, tells, stores, owes, passes, raises, wakes, enters, stops, finds-spin, spins, reads, finds-again, stays, enters-again, stops-again, returns, ends, dreams, glances, glances-again, times-out, finds-last, finds-none, closes, closes-alone, close-raises, close-wakes, shuts, shut-raises, shut-wakes, shut-raises-again, shut-wakes-again, sleeps as falls-asleep}
 use Rattle.rules.proofs.Heard.{Duty, none, checking, raising, waking, Due, Good}
 
 -- a step of a wait, which holds an epoch or sleeps: its turn changes nothing that the waiter relies on
-abbrev pub waitsOnAt : Phase → Bool
-waitsOnAt ph = holdsEpochAt ph || not (awake ph)
+abbrev pub waits_on_at : Phase → Bool
+waits_on_at ph = holds_epoch_at ph || not (awake ph)
 
-abbrev pub waitsOn : Step → Bool
-waitsOn s = waitsOnAt (phase s)
+abbrev pub waits_on : Step → Bool
+waits_on s = waits_on_at (phase s)
 
 pub later : (d : Duty) (k : ℕ) → Due false d k → Due true d k
 later none k x = x
@@ -26,7 +26,7 @@ later waking k x = tt
 
 -- the wait goes on only over what was seen: no room, no flag, no raise
 pub own : (g : Sight) (s next : Step) → Leads g s next → (n : ℕ) (d : Duty) → ((e : ℕ) → s ≡ Wait e → g.bell ≡ e → n ≡ 0)
-    → (n' k' : ℕ) (z' : Bool) → (waitsOn s ≡ true → (n' ≡ n) × (k' ≡ g.room) × (z' ≡ barred g.door)) → Good (phase s) n g.room (barred g.door) d → Good (phase next) n' k' z' d
+    → (n' k' : ℕ) (z' : Bool) → (waits_on s ≡ true → (n' ≡ n) × (k' ≡ g.room) × (z' ≡ barred g.door)) → Good (phase s) n g.room (barred g.door) d → Good (phase next) n' k' z' d
 own g s next idles n d p n' k' z' f y = tt
 own g s next (finds h) n d p n' k' z' f y = tt
 own g s next (blocks h q) n d p n' k' z' f y = tt

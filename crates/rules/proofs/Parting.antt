@@ -9,7 +9,7 @@ use Rattle.types.specs.declared.Door.TheVariants.{Left}
 use Rattle.types.specs.declared.Step.{Step}
 use Rattle.types.specs.declared.Step.TheVariants.{Spin, LastLook, CloseSet}
 use Rattle.types.specs.declared.Access.{Access}
-use Rattle.rules.specs.Take.{stanceOf, closedAfter}
+use Rattle.rules.specs.Take.{stance_of, closed_after}
 use Rattle.rules.specs.Phase.{phase}
 use Rattle.rules.proofs.Does.{Does, nothing, looks, flags, reads as epoch, writes, takes, stores as store, raises as ring, closes as close, shuts as shut, waits as wait, wakes as wake}
 use Rattle.rules.proofs.Leads.{Sight, Onward, straight, around, asks, Leads, idles, finds, blocks, gives_up, copies, spills, tells, stores, owes, passes, raises, wakes, enters, stops, finds-spin, spins, reads, finds-again, stays, enters-again, stops-again, returns, ends, dreams, glances, glances-again, times-out, finds-last, finds-none, closes, closes-alone, close-raises, close-wakes, shuts, shut-raises, shut-wakes, shut-raises-again, shut-wakes-again, sleeps as falls-asleep}
@@ -145,7 +145,7 @@ spins-on g s next shut-raises-again f n e = absurd (let u : ◌≡◌ {A = ℕ} 
 spins-on g s next shut-wakes-again f n e = absurd (let u : ◌≡◌ {A = ℕ} 0 1 = cc in omega arith)
 
 -- one's own close is counted by its own turn alone
-pub closed-by : (side : Side) (n : ℕ) (s : Step) (a : Access) → Does side n s a → (b : Bool) → (closedAfter (stanceOf s) b ≡ b) ⊎ (s ≡ CloseSet)
+pub closed-by : (side : Side) (n : ℕ) (s : Step) (a : Access) → Does side n s a → (b : Bool) → (closed_after (stance_of s) b ≡ b) ⊎ (s ≡ CloseSet)
 closed-by side n s a (nothing l) b = inl (l.closed b)
 closed-by side n s a (looks l) b = inl (l.closed b)
 closed-by side n s a (flags l) b = inl (l.closed b)

@@ -5,7 +5,7 @@ use mathlib.Core.List.{List, [], ◌∷◌, ◌++◌}
 use Prim.Native.Nat.{ℕ, ◌+◌, ◌-◌, ◌%◌, ◌^◌, ◌<◌, ◌≤◌}
 use native.Mathlib.Omega.{arith}
 use lib.ListN.{length, get_or, take}
-use Rattle.words.specs.Le.{leAt}
+use Rattle.words.specs.Le.{le_at}
 use Rattle.words.specs.Wrap.{plus}
 use Rattle.types.specs.declared.Side.{Side}
 use Rattle.types.specs.declared.Side.TheVariants.{Sender, Recorder}
@@ -13,14 +13,14 @@ use Rattle.types.specs.declared.Own.{Own}
 use Rattle.types.specs.declared.SlotHead.{SlotHead}
 use Rattle.types.specs.declared.Party.{Party}
 use Rattle.types.specs.declared.Step.TheVariants.{Rest, Spin, LastLook}
-use Rattle.layout.specs.Limits.{spinsOk, capacity, payloadCapacity, totalBytes}
-use Rattle.layout.specs.Flags.{worth, notFullOn, reservedFrom, bitOn, attachMark, closeMark}
-use Rattle.layout.specs.Header.{powerAt, slotSizeAt, flagsAt, counterAt, bellAt}
-use Rattle.layout.specs.Slots.{headWord, head_of, payloadIn}
-use Rattle.rules.specs.Sides.{other, sleepBell}
+use Rattle.layout.specs.Limits.{spins_ok, capacity, payload_capacity, total_bytes}
+use Rattle.layout.specs.Flags.{worth, not_full_on, reserved_from, bit_on, attach_mark, close_mark}
+use Rattle.layout.specs.Header.{power_at, slot_size_at, flags_at, counter_at, bell_at}
+use Rattle.layout.specs.Slots.{head_word, head_of, payload_in}
+use Rattle.rules.specs.Sides.{other, sleep_bell}
 use Rattle.rules.specs.Access.{slot_of}
 use Rattle.rules.specs.Phase.{Phase, resting, looking, copying, publishing, telling, asking, armed, poised, waits, sleeps, glancing, leaving, phase}
-use Rattle.rules.specs.Run.{Note, Trace, World, rungOf, partyIn}
+use Rattle.rules.specs.Run.{Note, Trace, World, rung_of, party_in}
 
 -- how many notes a side has published
 abbrev pub count_of : Side → Trace → ℕ
@@ -110,8 +110,8 @@ abbrev pub nth : List Note → ℕ → Note
 nth notes i = get_or notes i blank
 
 -- the slot header of a note
-abbrev pub noteHead : Note → SlotHead
-noteHead n = record { length = length n.body; tag = n.tag; flags = 0; zero = 0 }
+abbrev pub note_head : Note → SlotHead
+note_head n = record { length = length n.body; tag = n.tag; flags = 0; zero = 0 }
 
 module _ (P S v : ℕ) (on : Bool) where
   abbrev pub cap : ℕ
@@ -121,15 +121,15 @@ module _ (P S v : ℕ) (on : Bool) where
   sizes side spins = record { side = side; attached = true; power = P; slot = S; notfull = on; spins = spins }
 
   -- free slots for the sender, waiting notes for the recorder
-  abbrev pub roomIn : Side → Trace → ℕ
-  roomIn Sender t = cap - (length t.sent - length t.delivered)
-  roomIn Recorder t = length t.sent - length t.delivered
+  abbrev pub room_in : Side → Trace → ℕ
+  room_in Sender t = cap - (length t.sent - length t.delivered)
+  room_in Recorder t = length t.sent - length t.delivered
 
   -- the slot of the i-th note holds it
   pub record HoldsAt (r : List ℕ) (i : ℕ) (n : Note) : Type 0 where
-    pub head : head_of (headWord (slot_of r (sizes Sender 0) (plus 64 v i))) ≡ noteHead n
-    pub payload : payloadIn (slot_of r (sizes Sender 0) (plus 64 v i)) (length n.body) ≡ n.body
-    pub body-fits : length n.body ≤ payloadCapacity S
+    pub head : head_of (head_word (slot_of r (sizes Sender 0) (plus 64 v i))) ≡ note_head n
+    pub payload : payload_in (slot_of r (sizes Sender 0) (plus 64 v i)) (length n.body) ≡ n.body
+    pub body-fits : length n.body ≤ payload_capacity S
 
   -- what a side at a store, or behind it, has in hand
   abbrev pub InHand : Side → Phase → List ℕ → Trace → Type 0
@@ -162,22 +162,22 @@ module _ (P S v : ℕ) (on : Bool) where
   -- a seat: its flags tell whether it is taken and closed; who sits there has the sizes and the counter; an empty one rests;
   -- one that has closed neither pushes nor pops; one at its last look for the other's close has seen that bit; its spin count is within the limit, and at a spin fewer follow
   pub record Seated (side : Side) (p : Party) (t : Trace) (flags : ℕ) : Type 0 where
-    pub closed-bit : bitOn (worth (closeMark side)) flags ≡ p.closed
-    pub attached-bit : bitOn (worth (attachMark side)) flags ≡ p.own.attached
+    pub closed-bit : bit_on (worth (close_mark side)) flags ≡ p.closed
+    pub attached-bit : bit_on (worth (attach_mark side)) flags ≡ p.own.attached
     pub in_place : p.own.attached ≡ true → (p.own ≡ sizes side p.own.spins) × (p.counter ≡ plus 64 v (count_of side t))
     pub empty : p.own.attached ≡ false → (p.step ≡ Rest) × (p.closed ≡ false)
     pub over : p.closed ≡ true → parts (phase p.step) ≡ true
-    pub few : spinsOk p.own.spins ≡ true
+    pub few : spins_ok p.own.spins ≡ true
     pub spun : (n : ℕ) → p.step ≡ Spin n → n < p.own.spins
-    pub heard : p.step ≡ LastLook false → bitOn (worth (closeMark (other side))) flags ≡ true
+    pub heard : p.step ≡ LastLook false → bit_on (worth (close_mark (other side))) flags ≡ true
 
   -- the header's fixed words
   pub record Fixed (r : List ℕ) : Type 0 where
-    pub long : length r ≡ totalBytes P S
-    pub small : leAt 4 r flagsAt < reservedFrom
-    pub power_at : leAt 1 r powerAt ≡ P
-    pub slot_at : leAt 4 r slotSizeAt ≡ S
-    pub option : bitOn notFullOn (leAt 4 r flagsAt) ≡ on
+    pub long : length r ≡ total_bytes P S
+    pub small : le_at 4 r flags_at < reserved_from
+    pub power_at : le_at 1 r power_at ≡ P
+    pub slot_at : le_at 4 r slot_size_at ≡ S
+    pub option : bit_on not_full_on (le_at 4 r flags_at) ≡ on
 
   -- the notes: counts within the capacity of one another, delivered in order, and the waiting ones in their slots
   pub record Queue (r : List ℕ) (t : Trace) : Type 0 where
@@ -188,15 +188,15 @@ module _ (P S v : ℕ) (on : Bool) where
 
   -- one side of a world
   pub record Side-good (side : Side) (r : List ℕ) (p : Party) (t : Trace) : Type 0 where
-    pub word : leAt 8 r (counterAt side) ≡ plus 64 v (count_of side t)
-    pub seat : Seated side p t (leAt 4 r flagsAt)
-    pub since : Since (phase p.step) (leAt 4 r (bellAt (sleepBell side))) (rungOf side t)
-    pub room : HasRoom (phase p.step) (roomIn side t)
+    pub word : le_at 8 r (counter_at side) ≡ plus 64 v (count_of side t)
+    pub seat : Seated side p t (le_at 4 r flags_at)
+    pub since : Since (phase p.step) (le_at 4 r (bell_at (sleep_bell side))) (rung_of side t)
+    pub room : HasRoom (phase p.step) (room_in side t)
     pub hand : InHand side (phase p.step) r t
     pub tag_small : p.tag < 2 ^ 16
-    pub bell-small : leAt 4 r (bellAt (sleepBell side)) < 2 ^ 32
+    pub bell-small : le_at 4 r (bell_at (sleep_bell side)) < 2 ^ 32
 
   pub record Real (w : World) : Type 0 where
     pub fixed : Fixed w.region
     pub queue : Queue w.region w.trace
-    pub sides : (side : Side) → Side-good side w.region (partyIn w side) w.trace
+    pub sides : (side : Side) → Side-good side w.region (party_in w side) w.trace

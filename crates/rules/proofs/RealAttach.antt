@@ -6,22 +6,22 @@ use Prim.Native.Nat.{ℕ, zero, suc}
 use native.Mathlib.Omega.{arith}
 use lib.Dec.{T, eqb}
 use lib.ListN.{length}
-use Rattle.words.specs.Le.{leAt, putLe}
+use Rattle.words.specs.Le.{le_at, put_le}
 use Rattle.types.specs.Answers.{number, Test, test, first_of}
 use Rattle.types.specs.declared.Side.{Side}
 use Rattle.types.specs.declared.Side.TheVariants.{Sender, Recorder}
 use Rattle.types.specs.declared.Party.{Party}
 use Rattle.types.specs.declared.Access.{Access}
 use Rattle.types.specs.declared.Access.TheVariants.{SetFlag}
-use Rattle.layout.specs.Limits.{powerOk, slotOk, spinsOk}
-use Rattle.layout.specs.Flags.{worth, bitOn, setBit, attachMark, closeMark}
-use Rattle.layout.specs.Header.{flagsAt, counterAt, bellAt}
-use Rattle.layout.specs.Attach.{flagChecks, ringChecks, regionChecks, attachChecks, attachAnswer, attachReply, attachLeaves, attached}
+use Rattle.layout.specs.Limits.{power_ok, slot_ok, spins_ok}
+use Rattle.layout.specs.Flags.{worth, bit_on, set_bit, attach_mark, close_mark}
+use Rattle.layout.specs.Header.{flags_at, counter_at, bell_at}
+use Rattle.layout.specs.Attach.{flag_checks, ring_checks, region_checks, attach_checks, attach_answer, attach_reply, attach_leaves, attached}
 use Rattle.layout.proofs.FlagLaws.{mark_set}
-use Rattle.rules.specs.Sides.{other, sleepBell}
-use Rattle.rules.specs.Access.{leavesOf}
-use Rattle.rules.specs.Bench.{partyOf, seat}
-use Rattle.rules.specs.Run.{Note, World, partyIn, attachSeats}
+use Rattle.rules.specs.Sides.{other, sleep_bell}
+use Rattle.rules.specs.Access.{leaves_of}
+use Rattle.rules.specs.Bench.{party_of, seat}
+use Rattle.rules.specs.Run.{Note, World, party_in, attach_seats}
 use Rattle.rules.specs.Phase.{Phase, resting, looking, copying, publishing, telling, asking, armed, poised, waits, sleeps, glancing, leaving, phase}
 use Rattle.rules.proofs.After.{counter-after, bell-after}
 use Rattle.rules.proofs.Kept.{header-in, flags-are, fixed_kept}
@@ -33,12 +33,12 @@ use Rattle.rules.proofs.RealCalls.{seat-one, seat-two}
 use Rattle.rules.proofs.Real.{InHand, HoldsAt, nth, Queue, Side-good, Real}
 
 -- the k-th test of a list of checks; where they end in Done, it holds
-abbrev testAt : List Test → ℕ → Bool
-testAt [] k = true
-testAt (test b a ∷ cs) zero = b
-testAt (test b a ∷ cs) (suc k) = testAt cs k
+abbrev test_at : List Test → ℕ → Bool
+test_at [] k = true
+test_at (test b a ∷ cs) zero = b
+test_at (test b a ∷ cs) (suc k) = test_at cs k
 
-done-test : (cs : List Test) → T (all-refuse cs) → eqb (number (first_of cs)) 0 ≡ true → (k : ℕ) → testAt cs k ≡ true
+done-test : (cs : List Test) → T (all-refuse cs) → eqb (number (first_of cs)) 0 ≡ true → (k : ℕ) → test_at cs k ≡ true
 done-test [] t e k = refl
 done-test (test true a ∷ cs) t e zero = refl
 done-test (test true a ∷ cs) t e (suc k) = done-test cs (others-refuse (refuses a) (all-refuse cs) t) e k
@@ -50,63 +50,63 @@ not-true true e = sym e
 not-true false e = refl
 
 -- an accepted count is within the limit
-pub count-few : (r : List ℕ) (side : Side) (spins : ℕ) → eqb (number (attachAnswer r side spins)) 0 ≡ true → spinsOk spins ≡ true
-unfolding attachAnswer attachChecks regionChecks ringChecks flagChecks
-count-few r side spins e = done-test (attachChecks r side spins) tt e 0
+pub count-few : (r : List ℕ) (side : Side) (spins : ℕ) → eqb (number (attach_answer r side spins)) 0 ≡ true → spins_ok spins ≡ true
+unfolding attach_answer attach_checks region_checks ring_checks flag_checks
+count-few r side spins e = done-test (attach_checks r side spins) tt e 0
 
 -- an accepted side's bit was clear
-pub bit-clear : (r : List ℕ) (side : Side) (spins : ℕ) → eqb (number (attachAnswer r side spins)) 0 ≡ true → bitOn (worth (attachMark side)) (leAt 4 r flagsAt) ≡ false
-unfolding attachAnswer attachChecks regionChecks ringChecks flagChecks
-bit-clear r side spins e = not-true (bitOn (worth (attachMark side)) (leAt 4 r flagsAt)) (done-test (attachChecks r side spins) tt e 12)
+pub bit-clear : (r : List ℕ) (side : Side) (spins : ℕ) → eqb (number (attach_answer r side spins)) 0 ≡ true → bit_on (worth (attach_mark side)) (le_at 4 r flags_at) ≡ false
+unfolding attach_answer attach_checks region_checks ring_checks flag_checks
+bit-clear r side spins e = not-true (bit_on (worth (attach_mark side)) (le_at 4 r flags_at)) (done-test (attach_checks r side spins) tt e 12)
 
-module _ (P S v : ℕ) (on : Bool) (power-ok : powerOk P ≡ true) (Slot-ok : slotOk S ≡ true) (w : World) (real : Real P S v on w) (side : Side) where
+module _ (P S v : ℕ) (on : Bool) (power-ok : power_ok P ≡ true) (Slot-ok : slot_ok S ≡ true) (w : World) (real : Real P S v on w) (side : Side) where
   abbrev r : List ℕ
   r = w.region
 
   abbrev p : Party
-  p = partyIn w side
+  p = party_in w side
 
   abbrev flags : ℕ
-  flags = leAt 4 r flagsAt
+  flags = le_at 4 r flags_at
 
   -- an attach stores as an access that sets its bit
   abbrev a : Access
-  a = SetFlag (attachMark side)
+  a = SetFlag (attach_mark side)
 
   abbrev left : List ℕ
-  left = leavesOf r p.own a p.tag []
+  left = leaves_of r p.own a p.tag []
 
-  flags-left : leAt 4 left flagsAt ≡ setBit (worth (attachMark side)) flags
+  flags-left : le_at 4 left flags_at ≡ set_bit (worth (attach_mark side)) flags
   flags-left = flags-are P S v on r p [] real.fixed a
 
   -- the flags after it, as stored
-  pub attach-flags : leAt 4 (putLe 4 r flagsAt (setBit (worth (attachMark side)) flags)) flagsAt ≡ setBit (worth (attachMark side)) flags
-  unfolding leavesOf
+  pub attach-flags : le_at 4 (put_le 4 r flags_at (set_bit (worth (attach_mark side)) flags)) flags_at ≡ set_bit (worth (attach_mark side)) flags
+  unfolding leaves_of
   attach-flags = flags-left
 
-  counters : (τ : Side) → leAt 8 left (counterAt τ) ≡ leAt 8 r (counterAt τ)
+  counters : (τ : Side) → le_at 8 left (counter_at τ) ≡ le_at 8 r (counter_at τ)
   counters τ = counter-after r p.own p.tag [] (header-in P S v on r p [] real.fixed) τ a tt
 
-  bells : (τ : Side) → leAt 4 left (bellAt (sleepBell τ)) ≡ leAt 4 r (bellAt (sleepBell τ))
-  bells τ = bell-after r p.own p.tag [] (header-in P S v on r p [] real.fixed) (sleepBell τ) a
+  bells : (τ : Side) → le_at 4 left (bell_at (sleep_bell τ)) ≡ le_at 4 r (bell_at (sleep_bell τ))
+  bells τ = bell-after r p.own p.tag [] (header-in P S v on r p [] real.fixed) (sleep_bell τ) a
 
   slots : (i : ℕ) (n : Note) → HoldsAt P S v on r i n → HoldsAt P S v on left i n
   slots i n = holds_kept P S v on power-ok Slot-ok r p [] real.fixed i n a tt
 
   -- the bits of the marks: the own attach bit is set, the others are as they were
-  close-kept : (τ σ : Side) → bitOn (worth (closeMark τ)) (setBit (worth (attachMark σ)) flags) ≡ bitOn (worth (closeMark τ)) flags
-  close-kept Sender Sender = mark_set (attachMark Sender) flags real.fixed.small (closeMark Sender)
-  close-kept Sender Recorder = mark_set (attachMark Recorder) flags real.fixed.small (closeMark Sender)
-  close-kept Recorder Sender = mark_set (attachMark Sender) flags real.fixed.small (closeMark Recorder)
-  close-kept Recorder Recorder = mark_set (attachMark Recorder) flags real.fixed.small (closeMark Recorder)
+  close-kept : (τ σ : Side) → bit_on (worth (close_mark τ)) (set_bit (worth (attach_mark σ)) flags) ≡ bit_on (worth (close_mark τ)) flags
+  close-kept Sender Sender = mark_set (attach_mark Sender) flags real.fixed.small (close_mark Sender)
+  close-kept Sender Recorder = mark_set (attach_mark Recorder) flags real.fixed.small (close_mark Sender)
+  close-kept Recorder Sender = mark_set (attach_mark Sender) flags real.fixed.small (close_mark Recorder)
+  close-kept Recorder Recorder = mark_set (attach_mark Recorder) flags real.fixed.small (close_mark Recorder)
 
-  attach-set : (σ : Side) → bitOn (worth (attachMark σ)) (setBit (worth (attachMark σ)) flags) ≡ true
-  attach-set Sender = mark_set (attachMark Sender) flags real.fixed.small (attachMark Sender)
-  attach-set Recorder = mark_set (attachMark Recorder) flags real.fixed.small (attachMark Recorder)
+  attach-set : (σ : Side) → bit_on (worth (attach_mark σ)) (set_bit (worth (attach_mark σ)) flags) ≡ true
+  attach-set Sender = mark_set (attach_mark Sender) flags real.fixed.small (attach_mark Sender)
+  attach-set Recorder = mark_set (attach_mark Recorder) flags real.fixed.small (attach_mark Recorder)
 
-  attach-kept : (σ : Side) → bitOn (worth (attachMark (other σ))) (setBit (worth (attachMark σ)) flags) ≡ bitOn (worth (attachMark (other σ))) flags
-  attach-kept Sender = mark_set (attachMark Sender) flags real.fixed.small (attachMark Recorder)
-  attach-kept Recorder = mark_set (attachMark Recorder) flags real.fixed.small (attachMark Sender)
+  attach-kept : (σ : Side) → bit_on (worth (attach_mark (other σ))) (set_bit (worth (attach_mark σ)) flags) ≡ bit_on (worth (attach_mark (other σ))) flags
+  attach-kept Sender = mark_set (attach_mark Sender) flags real.fixed.small (attach_mark Recorder)
+  attach-kept Recorder = mark_set (attach_mark Recorder) flags real.fixed.small (attach_mark Sender)
 
   queue-left : Queue P S v on left w.trace
   queue-left =
@@ -139,7 +139,7 @@ module _ (P S v : ℕ) (on : Bool) (power-ok : powerOk P ≡ true) (Slot-ok : sl
   hand-left Recorder glancing h = tt
   hand-left Recorder leaving h = tt
 
-  other-left : Side-good P S v on (other side) left (partyIn w (other side)) w.trace
+  other-left : Side-good P S v on (other side) left (party_in w (other side)) w.trace
   other-left =
       let h = real.sides (other side) in
       record {
@@ -157,12 +157,12 @@ module _ (P S v : ℕ) (on : Bool) (power-ok : powerOk P ≡ true) (Slot-ok : sl
             };
         since = rw (bells (other side)) h.since;
         room = h.room;
-        hand = hand-left (other side) (phase (partyIn w (other side)).step) h.hand;
+        hand = hand-left (other side) (phase (party_in w (other side)).step) h.hand;
         tag_small = h.tag_small;
         bell-small = rw (bells (other side)) h.bell-small;
       }
 
-  module _ (spins : ℕ) (accepted : eqb (number (attachAnswer r side spins)) 0 ≡ true) where
+  module _ (spins : ℕ) (accepted : eqb (number (attach_answer r side spins)) 0 ≡ true) where
     nobody : p.own.attached ≡ false
     nobody = sym (real.sides side).seat.attached-bit ∙ bit-clear r side spins accepted
 
@@ -190,20 +190,20 @@ module _ (P S v : ℕ) (on : Bool) (power-ok : powerOk P ≡ true) (Slot-ok : sl
           bell-small = rw (bells side) h.bell-small;
         }
 
-  abbrev pub attachWorld : (spins : ℕ) → World
-  attachWorld spins = record { region = attachLeaves r side spins; bench = attachSeats w side spins; trace = w.trace }
+  abbrev pub attach_world : (spins : ℕ) → World
+  attach_world spins = record { region = attach_leaves r side spins; bench = attach_seats w side spins; trace = w.trace }
 
-  pub real-attached : (spins : ℕ) → Real P S v on (attachWorld spins)
-  unfolding attachLeaves attachReply leavesOf
-  real-attached spins = by (eqb (number (attachAnswer r side spins)) 0) refl
+  pub real-attached : (spins : ℕ) → Real P S v on (attach_world spins)
+  unfolding attach_leaves attach_reply leaves_of
+  real-attached spins = by (eqb (number (attach_answer r side spins)) 0) refl
     where
-      by : (b : Bool) → eqb (number (attachAnswer r side spins)) 0 ≡ b → Real P S v on (attachWorld spins)
+      by : (b : Bool) → eqb (number (attach_answer r side spins)) 0 ≡ b → Real P S v on (attach_world spins)
       by false e = rw e real
       by true e =
           rw e record {
             fixed = fixed_kept P S v on r p [] real.fixed a;
             queue = queue-left;
-            sides = both-sides side (λ τ. Side-good P S v on τ left (partyOf (seat w.bench side (attached r side spins)) τ) w.trace)
+            sides = both-sides side (λ τ. Side-good P S v on τ left (party_of (seat w.bench side (attached r side spins)) τ) w.trace)
                 (subst (λ (x : Party). Side-good P S v on side left x w.trace) (sym (seat-one side w.bench (attached r side spins))) (newcomer spins e))
                 (subst (λ (x : Party). Side-good P S v on (other side) left x w.trace) (sym (seat-two side w.bench (attached r side spins))) other-left);
           }

@@ -15,12 +15,12 @@ use Rattle.types.specs.declared.Bench.{Bench}
 use Rattle.types.specs.declared.Step.{Step}
 use Rattle.types.specs.declared.Step.TheVariants.{Rest, Look, Asleep, LastLook, Spin, CloseSet, ShutSet}
 use Rattle.types.specs.declared.Answer.TheVariants.{GoesOn}
-use Rattle.layout.specs.Limits.{payloadCapacity}
+use Rattle.layout.specs.Limits.{payload_capacity}
 use Rattle.rules.specs.Sides.{other}
-use Rattle.rules.specs.Take.{stanceOf}
-use Rattle.rules.specs.Calls.{isSleeping, sound, ready, reply, at, named, begins, rouses, pushSpec, popSpec, closeSpec, shutSpec, spuriousSpec, timeoutSpec}
-use Rattle.rules.specs.Bench.{partyOf, seat}
-use Rattle.rules.specs.Run.{World, partyIn}
+use Rattle.rules.specs.Take.{stance_of}
+use Rattle.rules.specs.Calls.{is_sleeping, sound, ready, reply, at, named, begins, rouses, push_spec, pop_spec, close_spec, shut_spec, spurious_spec, timeout_spec}
+use Rattle.rules.specs.Bench.{party_of, seat}
+use Rattle.rules.specs.Run.{World, party_in}
 use Rattle.rules.specs.Phase.{phase}
 use Rattle.rules.proofs.Views.{sleeping-step}
 use Rattle.rules.proofs.Refusals.{ready-rests}
@@ -82,10 +82,10 @@ only-heard b true e h = refl
 only-heard true false e h = sym e
 only-heard false false e h = h
 
-pub push-changes : (p : Party) (b : Bool) (t l : ℕ) → t < 2 ^ 16 → Changed Sender p (pushSpec p b t l).party
-unfolding pushSpec
+pub push-changes : (p : Party) (b : Bool) (t l : ℕ) → t < 2 ^ 16 → Changed Sender p (push_spec p b t l).party
+unfolding push_spec
 push-changes p b t l h =
-    changed-by Sender p (pushSpec p b t l).party (named b t l p) ((ready Sender p ≡ true) × ((p.closed ≡ false) × ((b && not p.own.notfull) ≡ false)))
+    changed-by Sender p (push_spec p b t l).party (named b t l p) ((ready Sender p ≡ true) × ((p.closed ≡ false) × ((b && not p.own.notfull) ≡ false)))
     (λ e. record {
       own = refl;
       closed = refl;
@@ -97,12 +97,12 @@ push-changes p b t l h =
       over = λ c. absurd (let z = sym c ∙ e.1.0 in let u : ◌≡◌ {A = ℕ} 0 1 = cc in omega arith);
       blocks = λ s. inr (only-heard b p.own.notfull e.1.1);
     })
-    (begins-one p (ready Sender p) p.closed (b && not p.own.notfull) (not (leb l (payloadCapacity p.own.slot))) (named b t l p))
+    (begins-one p (ready Sender p) p.closed (b && not p.own.notfull) (not (leb l (payload_capacity p.own.slot))) (named b t l p))
 
-pub pop-changes : (p : Party) (b : Bool) (l : ℕ) → Changed Recorder p (popSpec p b l).party
-unfolding popSpec
+pub pop-changes : (p : Party) (b : Bool) (l : ℕ) → Changed Recorder p (pop_spec p b l).party
+unfolding pop_spec
 pop-changes p b l =
-    changed-by Recorder p (popSpec p b l).party (named b 0 l p) ((ready Recorder p ≡ true) × ((p.closed ≡ false) × (◌≡◌ {A = Bool} false false)))
+    changed-by Recorder p (pop_spec p b l).party (named b 0 l p) ((ready Recorder p ≡ true) × ((p.closed ≡ false) × (◌≡◌ {A = Bool} false false)))
     (λ e. record {
       own = refl;
       closed = refl;
@@ -124,43 +124,43 @@ stepped side p s i a f o = record { own = refl; closed = refl; counter = refl; a
 awake-parts : (s : Step) → s ≡ Asleep → {A : Type 0} → parts (phase s) ≡ true → A
 awake-parts s e q = absurd (let y = sym q ∙ ap (λ (u : Step). parts (phase u)) e in let z : ◌≡◌ {A = ℕ} 0 1 = cc in omega arith)
 
-pub close-changes : (side : Side) (p : Party) → Changed side p (closeSpec side p).party
-unfolding closeSpec
+pub close-changes : (side : Side) (p : Party) → Changed side p (close_spec side p).party
+unfolding close_spec
 close-changes side p =
-    changed-by side p (closeSpec side p).party (at CloseSet p) ((ready side p ≡ true) × ((p.closed ≡ false) × (◌≡◌ {A = Bool} false false)))
+    changed-by side p (close_spec side p).party (at CloseSet p) ((ready side p ≡ true) × ((p.closed ≡ false) × (◌≡◌ {A = Bool} false false)))
     (λ e. stepped side p CloseSet closes (ready-attached side p e.0) (inl (ready-rests side p e.0)) (λ q. refl))
     (begins-one p (ready side p) p.closed false false (at CloseSet p))
 
-pub shut-changes : (side : Side) (p : Party) → Changed side p (shutSpec side p).party
-unfolding shutSpec
+pub shut-changes : (side : Side) (p : Party) → Changed side p (shut_spec side p).party
+unfolding shut_spec
 shut-changes side p =
-    changed-by side p (shutSpec side p).party (at (ShutSet false) p) ((ready side p ≡ true) × ((◌≡◌ {A = Bool} false false) × (◌≡◌ {A = Bool} false false)))
+    changed-by side p (shut_spec side p).party (at (ShutSet false) p) ((ready side p ≡ true) × ((◌≡◌ {A = Bool} false false) × (◌≡◌ {A = Bool} false false)))
     (λ e. stepped side p (ShutSet false) shuts (ready-attached side p e.0) (inl (ready-rests side p e.0)) (λ q. refl))
     (begins-one p (ready side p) false false false (at (ShutSet false) p))
 
-pub spurious-changes : (side : Side) (p : Party) → Changed side p (spuriousSpec side p).party
-unfolding spuriousSpec
+pub spurious-changes : (side : Side) (p : Party) → Changed side p (spurious_spec side p).party
+unfolding spurious_spec
 spurious-changes side p =
-    changed-by side p (spuriousSpec side p).party (at Look p) ((sound side p ≡ true) × (isSleeping (stanceOf p.step) ≡ true))
+    changed-by side p (spurious_spec side p).party (at Look p) ((sound side p ≡ true) × (is_sleeping (stance_of p.step) ≡ true))
     (λ e. stepped side p Look looks (sound-attached side p e.0) (inr (sleeping-step p.step e.1)) (awake-parts p.step (sleeping-step p.step e.1)))
-    (rouses-one p (sound side p) (isSleeping (stanceOf p.step)) (reply (at Look p) GoesOn))
+    (rouses-one p (sound side p) (is_sleeping (stance_of p.step)) (reply (at Look p) GoesOn))
 
-pub timeout-changes : (side : Side) (p : Party) → Changed side p (timeoutSpec side p).party
-unfolding timeoutSpec
+pub timeout-changes : (side : Side) (p : Party) → Changed side p (timeout_spec side p).party
+unfolding timeout_spec
 timeout-changes side p =
-    changed-by side p (timeoutSpec side p).party (at (LastLook true) p) ((sound side p ≡ true) × (isSleeping (stanceOf p.step) ≡ true))
+    changed-by side p (timeout_spec side p).party (at (LastLook true) p) ((sound side p ≡ true) × (is_sleeping (stance_of p.step) ≡ true))
     (λ e. stepped side p (LastLook true) glances (sound-attached side p e.0) (inr (sleeping-step p.step e.1)) (awake-parts p.step (sleeping-step p.step e.1)))
-    (rouses-one p (sound side p) (isSleeping (stanceOf p.step)) (reply (at (LastLook true) p) GoesOn))
+    (rouses-one p (sound side p) (is_sleeping (stance_of p.step)) (reply (at (LastLook true) p) GoesOn))
 
-pub seat-same : (side : Side) (b : Bench) → seat b side (partyOf b side) ≡ b
+pub seat-same : (side : Side) (b : Bench) → seat b side (party_of b side) ≡ b
 seat-same Sender b = refl
 seat-same Recorder b = refl
 
-pub seat-one : (side : Side) (b : Bench) (q : Party) → partyOf (seat b side q) side ≡ q
+pub seat-one : (side : Side) (b : Bench) (q : Party) → party_of (seat b side q) side ≡ q
 seat-one Sender b q = refl
 seat-one Recorder b q = refl
 
-pub seat-two : (side : Side) (b : Bench) (q : Party) → partyOf (seat b side q) (other side) ≡ partyOf b (other side)
+pub seat-two : (side : Side) (b : Bench) (q : Party) → party_of (seat b side q) (other side) ≡ party_of b (other side)
 seat-two Sender b q = refl
 seat-two Recorder b q = refl
 
@@ -205,13 +205,13 @@ module _ (P S v : ℕ) (on : Bool) where
   abbrev pub seated : World → Side → Party → World
   seated w side q = record { region = w.region; bench = seat w.bench side q; trace = w.trace }
 
-  pub real-called : (w : World) → Real P S v on w → (side : Side) (q : Party) → Changed side (partyIn w side) q → Real P S v on (seated w side q)
+  pub real-called : (w : World) → Real P S v on w → (side : Side) (q : Party) → Changed side (party_in w side) q → Real P S v on (seated w side q)
   real-called w real side q (inl e) = subst (Real P S v on) (sym (ap (seated w side) e ∙ ap (λ (b : Bench). record { region = w.region; bench = b; trace = w.trace }) (seat-same side w.bench))) real
   real-called w real side q (inr b) =
       record {
         fixed = real.fixed;
         queue = real.queue;
-        sides = both-sides side (λ τ. Side-good P S v on τ w.region (partyIn (seated w side q) τ) w.trace)
+        sides = both-sides side (λ τ. Side-good P S v on τ w.region (party_in (seated w side q) τ) w.trace)
             (subst (λ (x : Party). Side-good P S v on side w.region x w.trace) (sym (seat-one side w.bench q)) mine)
             (subst (λ (x : Party). Side-good P S v on (other side) w.region x w.trace) (sym (seat-two side w.bench q)) (real.sides (other side)));
       }

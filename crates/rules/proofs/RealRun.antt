@@ -6,7 +6,7 @@ use Prim.Native.Nat.{ℕ, ◌+◌, ◌-◌, ◌<◌}
 use native.Mathlib.Omega.{arith}
 use borrow.Author.Tests.{eqb-true}
 use lib.ListN.{length, drop, length-drop, take-append-drop}
-use Rattle.words.specs.Le.{leAt}
+use Rattle.words.specs.Le.{le_at}
 use Rattle.words.specs.Wrap.{plus}
 use Rattle.words.proofs.Wrapped.{plus-zero}
 use Rattle.types.specs.declared.Side.{Side}
@@ -15,44 +15,44 @@ use Rattle.types.specs.declared.Party.{Party}
 use Rattle.types.specs.declared.Fault.{Fault}
 use Rattle.types.specs.declared.Fault.TheVariants.{Fine, Error}
 use Rattle.types.specs.declared.Event.TheVariants.{Turn, Failing, Spurious, TimeOut, Push, Pop, Close, Shutdown}
-use Rattle.layout.specs.Limits.{powerOk, slotOk, spinsOk, capacity, ringBytes, totalBytes}
-use Rattle.layout.specs.Flags.{worth, notFullOn, reservedFrom, bitOn, attachMark, closeMark}
-use Rattle.layout.specs.Header.{flagsAt, counterAt, bellAt}
-use Rattle.layout.specs.Create.{firstFlags, created}
+use Rattle.layout.specs.Limits.{power_ok, slot_ok, spins_ok, capacity, ring_bytes, total_bytes}
+use Rattle.layout.specs.Flags.{worth, not_full_on, reserved_from, bit_on, attach_mark, close_mark}
+use Rattle.layout.specs.Header.{flags_at, counter_at, bell_at}
+use Rattle.layout.specs.Create.{first_flags, created}
 use Rattle.layout.proofs.SizeLaws.{capacity-room}
 use Rattle.layout.specs.Whole.{Fitting}
 use Rattle.layout.proofs.Headed.{length-headed, headed-power, headed-slot, headed-flags, headed-counter, headed-bell}
 use Rattle.layout.proofs.Accepted.{tests, fits, first_small}
-use Rattle.rules.specs.Sides.{sleepBell}
-use Rattle.rules.specs.Calls.{pushSpec, popSpec, closeSpec, shutSpec, spuriousSpec, timeoutSpec}
-use Rattle.rules.specs.Bench.{settled, played, playedLeaves}
-use Rattle.rules.specs.Run.{Note, World, Happening, attaches, plays, partyIn, happens, run, opened}
+use Rattle.rules.specs.Sides.{sleep_bell}
+use Rattle.rules.specs.Calls.{push_spec, pop_spec, close_spec, shut_spec, spurious_spec, timeout_spec}
+use Rattle.rules.specs.Bench.{settled, played, played_leaves}
+use Rattle.rules.specs.Run.{Note, World, Happening, attaches, plays, party_in, happens, run, opened}
 use Rattle.rules.specs.Premises.{Typed, AllTyped}
 use Rattle.rules.specs.Claims.{waiting, Fresh, reached, InOrder}
 use Rattle.rules.proofs.Rooms.{used-is}
-use Rattle.rules.proofs.Taken.{turnWorld}
+use Rattle.rules.proofs.Taken.{turn_world}
 use Rattle.rules.proofs.RealTurn.{real-turned}
 use Rattle.rules.proofs.RealCalls.{Changed, seated, push-changes, pop-changes, close-changes, shut-changes, spurious-changes, timeout-changes, real-called}
-use Rattle.rules.proofs.RealAttach.{attachWorld, real-attached}
+use Rattle.rules.proofs.RealAttach.{attach_world, real-attached}
 use Rattle.rules.proofs.Real.{Side-good, Real}
 
-module _ (P S v : ℕ) (on : Bool) (power-ok : powerOk P ≡ true) (Slot-ok : slotOk S ≡ true) where
+module _ (P S v : ℕ) (on : Bool) (power-ok : power_ok P ≡ true) (Slot-ok : slot_ok S ≡ true) where
   -- whatever happens is an attach, a turn, or a call that changes its own party's record or nothing
   pub happens-by : (F : World → Type 0) (h : Happening) (w : World) → Typed h → (real : Real P S v on w)
-      → ((side : Side) (spins : ℕ) → F (attachWorld P S v on power-ok Slot-ok w real side spins))
-      → ((side : Side) (payload lent : List ℕ) (fault : Fault) → F (turnWorld w side payload lent fault))
-      → ((side : Side) (q : Party) → Changed side (partyIn w side) q → F (seated P S v on w side q))
+      → ((side : Side) (spins : ℕ) → F (attach_world P S v on power-ok Slot-ok w real side spins))
+      → ((side : Side) (payload lent : List ℕ) (fault : Fault) → F (turn_world w side payload lent fault))
+      → ((side : Side) (q : Party) → Changed side (party_in w side) q → F (seated P S v on w side q))
       → F (happens h w)
-  unfolding happens played playedLeaves settled
+  unfolding happens played played_leaves settled
   happens-by F (attaches side spins) w y real a t c = a side spins
   happens-by F (plays (Turn side) i o) w y real a t c = t side i o Fine
   happens-by F (plays (Failing side e) i o) w y real a t c = t side i o (Error e)
-  happens-by F (plays (Spurious side) i o) w y real a t c = c side (spuriousSpec side (partyIn w side)).party (spurious-changes side (partyIn w side))
-  happens-by F (plays (TimeOut side) i o) w y real a t c = c side (timeoutSpec side (partyIn w side)).party (timeout-changes side (partyIn w side))
-  happens-by F (plays (Push b g l) i o) w y real a t c = c Sender (pushSpec (partyIn w Sender) b g l).party (push-changes (partyIn w Sender) b g l y)
-  happens-by F (plays (Pop b l) i o) w y real a t c = c Recorder (popSpec (partyIn w Recorder) b l).party (pop-changes (partyIn w Recorder) b l)
-  happens-by F (plays (Close side) i o) w y real a t c = c side (closeSpec side (partyIn w side)).party (close-changes side (partyIn w side))
-  happens-by F (plays (Shutdown side) i o) w y real a t c = c side (shutSpec side (partyIn w side)).party (shut-changes side (partyIn w side))
+  happens-by F (plays (Spurious side) i o) w y real a t c = c side (spurious_spec side (party_in w side)).party (spurious-changes side (party_in w side))
+  happens-by F (plays (TimeOut side) i o) w y real a t c = c side (timeout_spec side (party_in w side)).party (timeout-changes side (party_in w side))
+  happens-by F (plays (Push b g l) i o) w y real a t c = c Sender (push_spec (party_in w Sender) b g l).party (push-changes (party_in w Sender) b g l y)
+  happens-by F (plays (Pop b l) i o) w y real a t c = c Recorder (pop_spec (party_in w Recorder) b l).party (pop-changes (party_in w Recorder) b l)
+  happens-by F (plays (Close side) i o) w y real a t c = c side (close_spec side (party_in w side)).party (close-changes side (party_in w side))
+  happens-by F (plays (Shutdown side) i o) w y real a t c = c side (shut_spec side (party_in w side)).party (shut-changes side (party_in w side))
 
   pub real-happens : (h : Happening) (w : World) → Typed h → Real P S v on w → Real P S v on (happens h w)
   real-happens h w y real =
@@ -64,63 +64,63 @@ module _ (P S v : ℕ) (on : Bool) (power-ok : powerOk P ≡ true) (Slot-ok : sl
   real-run (h ∷ hs) w y real = real-run hs (happens h w) y.1 (real-happens h w y.0 real)
 
 -- fresh flags
-fresh-small : (on : Bool) → firstFlags on < reservedFrom
+fresh-small : (on : Bool) → first_flags on < reserved_from
 fresh-small true = omega arith
 fresh-small false = omega arith
 
-fresh-option : (on : Bool) → bitOn notFullOn (firstFlags on) ≡ on
+fresh-option : (on : Bool) → bit_on not_full_on (first_flags on) ≡ on
 fresh-option true = refl
 fresh-option false = refl
 
-fresh-closed : (on : Bool) (side : Side) → bitOn (worth (closeMark side)) (firstFlags on) ≡ false
+fresh-closed : (on : Bool) (side : Side) → bit_on (worth (close_mark side)) (first_flags on) ≡ false
 fresh-closed true Sender = refl
 fresh-closed true Recorder = refl
 fresh-closed false Sender = refl
 fresh-closed false Recorder = refl
 
-fresh-attached : (on : Bool) (side : Side) → bitOn (worth (attachMark side)) (firstFlags on) ≡ false
+fresh-attached : (on : Bool) (side : Side) → bit_on (worth (attach_mark side)) (first_flags on) ≡ false
 fresh-attached true Sender = refl
 fresh-attached true Recorder = refl
 fresh-attached false Sender = refl
 fresh-attached false Recorder = refl
 
 module _ (r : List ℕ) (P S : ℕ) (on : Bool) (v : ℕ) (fresh : Fresh r P S on v) where
-  made : Fitting r (ringBytes P S) P S (firstFlags on) v
-  made = fits r P S on v fresh.0 fresh.1 (firstFlags on) (first_small r P S on v fresh.0 fresh.1)
+  made : Fitting r (ring_bytes P S) P S (first_flags on) v
+  made = fits r P S on v fresh.0 fresh.1 (first_flags on) (first_small r P S on v fresh.0 fresh.1)
 
-  pub power-fits : powerOk P ≡ true
+  pub power-fits : power_ok P ≡ true
   power-fits = (tests r P S on v fresh.0 fresh.1).1
 
-  pub slot-fits : slotOk S ≡ true
+  pub slot-fits : slot_ok S ≡ true
   slot-fits = (tests r P S on v fresh.0 fresh.1).0
 
   abbrev region : List ℕ
   region = created r P S on v
 
-  pub flags-are : leAt 4 region flagsAt ≡ firstFlags on
+  pub flags-are : le_at 4 region flags_at ≡ first_flags on
   unfolding created
-  flags-are = headed-flags r (ringBytes P S) P S (firstFlags on) v made
+  flags-are = headed-flags r (ring_bytes P S) P S (first_flags on) v made
 
-  counter-starts : (side : Side) → leAt 8 region (counterAt side) ≡ plus 64 v 0
+  counter-starts : (side : Side) → le_at 8 region (counter_at side) ≡ plus 64 v 0
   unfolding created
-  counter-starts side = headed-counter r (ringBytes P S) P S (firstFlags on) v made side ∙ sym (plus-zero 64 v fresh.1)
+  counter-starts side = headed-counter r (ring_bytes P S) P S (first_flags on) v made side ∙ sym (plus-zero 64 v fresh.1)
 
-  bell-starts : (side : Side) → leAt 4 region (bellAt (sleepBell side)) ≡ 0
+  bell-starts : (side : Side) → le_at 4 region (bell_at (sleep_bell side)) ≡ 0
   unfolding created
-  bell-starts side = headed-bell r (ringBytes P S) P S (firstFlags on) v made (sleepBell side)
+  bell-starts side = headed-bell r (ring_bytes P S) P S (first_flags on) v made (sleep_bell side)
 
-  none-few : spinsOk 0 ≡ true
-  unfolding spinsOk
+  none-few : spins_ok 0 ≡ true
+  unfolding spins_ok
   none-few = refl
 
-  side-starts : (side : Side) → Side-good P S v on side region (partyIn (opened region) side) (opened region).trace
+  side-starts : (side : Side) → Side-good P S v on side region (party_in (opened region) side) (opened region).trace
   side-starts Sender =
       record {
         word = counter-starts Sender;
         seat =
             record {
-              closed-bit = ap (bitOn (worth (closeMark Sender))) flags-are ∙ fresh-closed on Sender;
-              attached-bit = ap (bitOn (worth (attachMark Sender))) flags-are ∙ fresh-attached on Sender;
+              closed-bit = ap (bit_on (worth (close_mark Sender))) flags-are ∙ fresh-closed on Sender;
+              attached-bit = ap (bit_on (worth (attach_mark Sender))) flags-are ∙ fresh-attached on Sender;
               in_place = λ e. absurd (let z : ◌≡◌ {A = ℕ} 0 1 = cc in omega arith);
               empty = λ e. (refl, refl);
               over = λ e. refl;
@@ -139,8 +139,8 @@ module _ (r : List ℕ) (P S : ℕ) (on : Bool) (v : ℕ) (fresh : Fresh r P S o
         word = counter-starts Recorder;
         seat =
             record {
-              closed-bit = ap (bitOn (worth (closeMark Recorder))) flags-are ∙ fresh-closed on Recorder;
-              attached-bit = ap (bitOn (worth (attachMark Recorder))) flags-are ∙ fresh-attached on Recorder;
+              closed-bit = ap (bit_on (worth (close_mark Recorder))) flags-are ∙ fresh-closed on Recorder;
+              attached-bit = ap (bit_on (worth (attach_mark Recorder))) flags-are ∙ fresh-attached on Recorder;
               in_place = λ e. absurd (let z : ◌≡◌ {A = ℕ} 0 1 = cc in omega arith);
               empty = λ e. (refl, refl);
               over = λ e. refl;
@@ -161,10 +161,10 @@ module _ (r : List ℕ) (P S : ℕ) (on : Bool) (v : ℕ) (fresh : Fresh r P S o
       record {
         fixed =
             record {
-              long = length-headed r (ringBytes P S) P S (firstFlags on) v made ∙ eqb-true (length r) (totalBytes P S) (tests r P S on v fresh.0 fresh.1).2;
+              long = length-headed r (ring_bytes P S) P S (first_flags on) v made ∙ eqb-true (length r) (total_bytes P S) (tests r P S on v fresh.0 fresh.1).2;
               small = rw flags-are (fresh-small on);
-              power_at = headed-power r (ringBytes P S) P S (firstFlags on) v made;
-              slot_at = headed-slot r (ringBytes P S) P S (firstFlags on) v made;
+              power_at = headed-power r (ring_bytes P S) P S (first_flags on) v made;
+              slot_at = headed-slot r (ring_bytes P S) P S (first_flags on) v made;
               option = rw flags-are (fresh-option on);
             };
         queue = record { below = omega arith; above = omega arith; order = refl; ring = λ i h l. absurd (omega arith) };

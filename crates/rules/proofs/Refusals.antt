@@ -19,15 +19,15 @@ use Rattle.types.specs.declared.Step.TheVariants.{Rest, Look, LastLook, CloseSet
 use Rattle.types.specs.declared.Answer.{Answer}
 use Rattle.types.specs.declared.Answer.TheVariants.{Done, InvalidMagic, UnsupportedVersion, InvalidHeaderSize, InvalidLayout, InvalidCapacity, InvalidSlotSize, CorruptIndices, CorruptSlot, Full, Empty, Closed, Shutdown, Timeout, WouldBlock, OutputTooSmall, AlreadyAttached, Syscall, PayloadTooLong, NotFullOff, BadCall, Nothing, Begun, GoesOn}
 use Rattle.words.proofs.Runs.{and_right}
-use Rattle.layout.specs.Limits.{payloadCapacity}
-use Rattle.layout.specs.Create.{createChecks, createAnswer, createLeaves}
-use Rattle.layout.specs.Attach.{attached as joined, unattached, flagChecks, ringChecks, regionChecks, attachChecks, attachAnswer, attachReply, attachLeaves}
-use Rattle.rules.specs.Take.{stanceOf}
-use Rattle.rules.specs.Calls.{isResting, isSleeping, sound, ready, reply, at, named, begins, rouses, pushSpec, popSpec, closeSpec, shutSpec, spuriousSpec, timeoutSpec}
-use Rattle.rules.specs.Turn.{taken, refused, turnSpec, turnLeaves, turnBuffer}
+use Rattle.layout.specs.Limits.{payload_capacity}
+use Rattle.layout.specs.Create.{create_checks, create_answer, create_leaves}
+use Rattle.layout.specs.Attach.{attached as joined, unattached, flag_checks, ring_checks, region_checks, attach_checks, attach_answer, attach_reply, attach_leaves}
+use Rattle.rules.specs.Take.{stance_of}
+use Rattle.rules.specs.Calls.{is_resting, is_sleeping, sound, ready, reply, at, named, begins, rouses, push_spec, pop_spec, close_spec, shut_spec, spurious_spec, timeout_spec}
+use Rattle.rules.specs.Turn.{taken, refused, turn_spec, turn_leaves, turn_buffer}
 use Rattle.rules.specs.Given.{Checked, passed, fails, holds, Ask, create, attach, turn, Given, created, attached, push-bad, pop-bad, close-bad, shutdown-bad, spurious-bad, timeout-bad, turn-bad, push-closed, pop-closed, close-closed, push-off, push-long, push_begun, pop-begun, close-begun, shutdown-begun, spurious-idle, timeout-idle, spurious-taken, timeout-taken, turn-taken}
 use Rattle.rules.specs.Leaves.{AtRest, Unchanged, Leaves, LeavesAll, BenchAsks}
-use Rattle.rules.specs.Bench.{played, playedLeaves, playedBuffer, settled, turned}
+use Rattle.rules.specs.Bench.{played, played_leaves, played_buffer, settled, turned}
 use Rattle.rules.proofs.Views.{resting-step}
 use Rattle.rules.proofs.Answered.{given-first}
 use Rattle.rules.proofs.Leaving.{ends-leaves}
@@ -131,12 +131,12 @@ checked-leaves w t r u (fails {b} {a} {cs} e) =
     unchanged-leaves a w s (u a (rw e) s)
 checked-leaves w t r u (holds {b} {a} {x} {cs} e c) = checked-leaves w (others-refuse (refuses a) (all-refuse cs) t) r (λ z h s. u z (rw e h) s) c
 
-create-refused : (r : List ℕ) (power slot : ℕ) (notfull : Bool) (start : ℕ) (y : Answer) → first_of (createChecks (length r) power slot) ≡ y → T (refuses y) → Unchanged (create r power slot notfull start)
-unfolding createLeaves createAnswer
+create-refused : (r : List ℕ) (power slot : ℕ) (notfull : Bool) (start : ℕ) (y : Answer) → first_of (create_checks (length r) power slot) ≡ y → T (refuses y) → Unchanged (create r power slot notfull start)
+unfolding create_leaves create_answer
 create-refused r power slot notfull start y e t = (rw (e, refusal-number y t), tt)
 
-attach-refused : (r : List ℕ) (side : Side) (spins : ℕ) (y : Answer) → first_of (attachChecks r side spins) ≡ y → T (refuses y) → Unchanged (attach r side spins)
-unfolding attachLeaves attachReply attachAnswer
+attach-refused : (r : List ℕ) (side : Side) (spins : ℕ) (y : Answer) → first_of (attach_checks r side spins) ≡ y → T (refuses y) → Unchanged (attach r side spins)
+unfolding attach_leaves attach_reply attach_answer
 attach-refused r side spins y e t = (rw (e, refusal-number y t), rw (e, refusal-number y t))
 
 -- the tests of a begin and of a rouse, and what they lead to
@@ -148,7 +148,7 @@ record Tests : Type 0 where
   begun : Party
 
 abbrev push-tests : Party → Bool → ℕ → ℕ → Tests
-push-tests p b t l = record { goes = ready Sender p; closed = p.closed; off = b && not p.own.notfull; long = not (leb l (payloadCapacity p.own.slot)); begun = named b t l p }
+push-tests p b t l = record { goes = ready Sender p; closed = p.closed; off = b && not p.own.notfull; long = not (leb l (payload_capacity p.own.slot)); begun = named b t l p }
 
 abbrev pop-tests : Party → Bool → ℕ → Tests
 pop-tests p b l = record { goes = ready Recorder p; closed = p.closed; off = false; long = false; begun = named b 0 l p }
@@ -174,15 +174,15 @@ module _ (p : Party) (w : Tests) where
 
 module _ (side : Side) (p : Party) (q : Reply) where
   abbrev rouse : Reply
-  rouse = rouses p (sound side p) (isSleeping (stanceOf p.step)) q
+  rouse = rouses p (sound side p) (is_sleeping (stance_of p.step)) q
 
   bad-rouse : sound side p ≡ false → rouse ≡ reply p BadCall
-  bad-rouse e = ap (λ (g : Bool). rouses p g (isSleeping (stanceOf p.step)) q) e
+  bad-rouse e = ap (λ (g : Bool). rouses p g (is_sleeping (stance_of p.step)) q) e
 
-  idle-rouse : sound side p ≡ true → isSleeping (stanceOf p.step) ≡ false → rouse ≡ reply p Nothing
+  idle-rouse : sound side p ≡ true → is_sleeping (stance_of p.step) ≡ false → rouse ≡ reply p Nothing
   idle-rouse e h = ap₂ (λ (g s : Bool). rouses p g s q) e h
 
-  taken-rouse : sound side p ≡ true → isSleeping (stanceOf p.step) ≡ true → rouse ≡ q
+  taken-rouse : sound side p ≡ true → is_sleeping (stance_of p.step) ≡ true → rouse ≡ q
   taken-rouse e h = ap₂ (λ (g s : Bool). rouses p g s q) e h
 
 -- the party of a reply that is known
@@ -191,15 +191,15 @@ party-of e = ap (λ (x : Reply). x.party) e
 
 pub ready-rests : (side : Side) (p : Party) → ready side p ≡ true → p.step ≡ Rest
 unfolding ready
-ready-rests side p e = resting-step p.step (and_right (sound side p) (isResting (stanceOf p.step)) e)
+ready-rests side p e = resting-step p.step (and_right (sound side p) (is_resting (stance_of p.step)) e)
 
 closed-rests : {r : Reply} (side : Side) (p : Party) → ready side p ≡ true → r ≡ reply p Closed → r.party.step ≡ Rest
 closed-rests side p e h = ap (λ (x : Reply). x.party.step) h ∙ ready-rests side p e
 
 turn-refused : (side : Side) (r : List ℕ) (p : Party) (i o : List ℕ) (f : Fault) → taken side r p i o f ≡ false → Unchanged (turn side r p i o f)
-unfolding turnLeaves turnBuffer turnSpec
+unfolding turn_leaves turn_buffer turn_spec
 turn-refused side r p i o f e =
-    let h : turnSpec side r p i o f ≡ refused p = rw e in
+    let h : turn_spec side r p i o f ≡ refused p = rw e in
     ((rw e, rw e), (ap (λ (t : Turned). t.party) h, ap (λ (t : Turned). t.woke) h))
 
 -- an attach gives back a party at rest either way
@@ -208,11 +208,11 @@ either-rests true p q h k = h
 either-rests false p q h k = k
 
 attach-rests : (r : List ℕ) (side : Side) (spins : ℕ) → AtRest (attach r side spins)
-unfolding attachReply
-attach-rests r side spins = either-rests (eqb (number (attachAnswer r side spins)) 0) (joined r side spins) (unattached side) refl refl
+unfolding attach_reply
+attach-rests r side spins = either-rests (eqb (number (attach_answer r side spins)) 0) (joined r side spins) (unattached side) refl refl
 
 given-leaves : {a : Ask} {x : Answer} → Given a x → Leaves x a
-unfolding attachChecks regionChecks ringChecks flagChecks pushSpec popSpec closeSpec shutSpec spuriousSpec timeoutSpec
+unfolding attach_checks region_checks ring_checks flag_checks push_spec pop_spec close_spec shut_spec spurious_spec timeout_spec
 given-leaves (created {r} {power} {slot} {notfull} {start} c) = checked-leaves (create r power slot notfull start) tt tt (create-refused r power slot notfull start) c
 given-leaves (attached {r} {side} {spins} c) = checked-leaves (attach r side spins) tt (attach-rests r side spins) (attach-refused r side spins) c
 given-leaves (push-bad {p} {b} {t} {l} h) = (tt, party-of (bad-begin p (push-tests p b t l) h))
@@ -242,7 +242,7 @@ leaves_all a = given-leaves (given-first a)
 
 -- a bench answers and leaves what the call or the turn does
 pub bench-asks : BenchAsks
-unfolding played playedLeaves playedBuffer settled turned
+unfolding played played_leaves played_buffer settled turned
 bench-asks r b i o (Turn side) = (refl, (refl, refl))
 bench-asks r b i o (Failing side e) = (refl, (refl, refl))
 bench-asks r b i o (Spurious side) = (refl, (refl, refl))

@@ -18,16 +18,16 @@ use Rattle.types.specs.declared.Side.TheVariants.{Sender, Recorder}
 use Rattle.types.specs.declared.Party.{Party}
 use Rattle.types.specs.declared.Access.{Access}
 use Rattle.types.specs.declared.Access.TheVariants.{WriteSlot, StoreCounter}
-use Rattle.layout.specs.Limits.{slotHeadBytes, powerOk, slotOk, capacity}
-use Rattle.layout.specs.Slots.{slot_at, headWord, head_of, payloadIn}
+use Rattle.layout.specs.Limits.{slot_head_bytes, power_ok, slot_ok, capacity}
+use Rattle.layout.specs.Slots.{slot_at, head_word, head_of, payload_in}
 use Rattle.layout.proofs.SizeLaws.{capacity-is, power-most, slot-behind, slot-within, slots_apart}
-use Rattle.rules.specs.Access.{slot_of, leavesOf}
+use Rattle.rules.specs.Access.{slot_of, leaves_of}
 use Rattle.rules.specs.Run.{Note, Trace, Carried, published, traced}
 use Rattle.rules.proofs.After.{Elsewhere, part-after}
 use Rattle.rules.proofs.Kept.{header-in, length_more}
 use Rattle.rules.proofs.Real.{sizes, nth, blank, HoldsAt, Fixed, Queue}
 
-module _ (P S v : ℕ) (on : Bool) (power-ok : powerOk P ≡ true) (Slot-ok : slotOk S ≡ true) where
+module _ (P S v : ℕ) (on : Bool) (power-ok : power_ok P ≡ true) (Slot-ok : slot_ok S ≡ true) where
   -- the capacity divides 2^64, so a wrapped counter falls on the place of the whole one
   even : 2 ^ 64 % capacity P ≡ 0
   even =
@@ -48,7 +48,7 @@ module _ (P S v : ℕ) (on : Bool) (power-ok : powerOk P ≡ true) (Slot-ok : sl
 
   module _ (r : List ℕ) (p : Party) (payload : List ℕ) (fixed : Fixed P S v on r) where
     abbrev left : Access → List ℕ
-    left a = leavesOf r p.own a p.tag payload
+    left a = leaves_of r p.own a p.tag payload
 
     -- a slot that the access does not write holds what it held
     pub slot_kept : (c : ℕ) (a : Access) → Elsewhere r p.own p.tag payload (header-in P S v on r p payload fixed) a (slot_at P S c) S
@@ -62,13 +62,13 @@ module _ (P S v : ℕ) (on : Bool) (power-ok : powerOk P ≡ true) (Slot-ok : sl
     holds_kept i n a e h =
         let k = slot_kept (plus 64 v i) a e in
         record {
-          head = ap (λ (s : List ℕ). head_of (headWord s)) k ∙ h.head;
-          payload = ap (λ (s : List ℕ). payloadIn s (length n.body)) k ∙ h.payload;
+          head = ap (λ (s : List ℕ). head_of (head_word s)) k ∙ h.head;
+          payload = ap (λ (s : List ℕ). payload_in s (length n.body)) k ∙ h.payload;
           body-fits = h.body-fits;
         }
 
     -- the slot that a push writes is none of the waiting ones
-    pub written-elsewhere : (c i j : ℕ) → p.own ≡ sizes P S v on Sender p.own.spins → c ≡ plus 64 v j → i < j → j < i + capacity P → slotHeadBytes + length payload ≤ S
+    pub written-elsewhere : (c i j : ℕ) → p.own ≡ sizes P S v on Sender p.own.spins → c ≡ plus 64 v j → i < j → j < i + capacity P → slot_head_bytes + length payload ≤ S
         → Elsewhere r p.own p.tag payload (header-in P S v on r p payload fixed) (WriteSlot c) (slot_at P S (plus 64 v i)) S
     written-elsewhere c i j o e h l f =
         let far : Apart (slot_at P S c) S (slot_at P S (plus 64 v i)) S = slots_apart P S (plus 64 v i) c (λ q. places-differ i j h l (q ∙ ap (λ (x : ℕ). x % capacity P) e)) in

@@ -7,10 +7,10 @@ use Rattle.types.specs.declared.Side.{Side}
 use Rattle.types.specs.declared.Side.TheVariants.{Sender, Recorder}
 use Rattle.types.specs.declared.Step.{Step}
 use Rattle.types.specs.declared.Step.TheVariants.{Rest, Look, Copy, Publish, Check, Raise, Wake, Gate, Spin, Epoch, Again, GateAgain, Wait, Asleep, LastLook, CloseSet, CloseRaise, CloseWake, ShutSet, ShutRaiseNe, ShutWakeNe, ShutRaiseNf, ShutWakeNf}
-use Rattle.rules.specs.Stretch.{holdsEpochAt, holdsEpoch}
+use Rattle.rules.specs.Stretch.{holds_epoch_at, holds_epoch}
 use Rattle.rules.proofs.Leads.{Sight, Onward, straight, around, asks, Leads, idles, finds, blocks, gives_up, copies, spills, tells, stores, owes, passes, raises, wakes, enters, stops, finds-spin, spins, reads, finds-again, stays, enters-again, stops-again, returns, ends, dreams, glances, glances-again, times-out, finds-last, finds-none, closes, closes-alone, close-raises, close-wakes, shuts, shut-raises, shut-wakes, shut-raises-again, shut-wakes-again, sleeps as falls-asleep}
-use Rattle.rules.proofs.Heard.{ifSender, rungBy, roomBy}
-use Rattle.rules.proofs.Own.{waitsOn}
+use Rattle.rules.proofs.Heard.{if_sender, rung_by, room_by}
+use Rattle.rules.proofs.Own.{waits_on}
 
 -- one with room k whose other stores a note, or takes one, is rung for it only where it had none
 abbrev spare : ℕ → ℕ
@@ -45,8 +45,8 @@ owing side CloseRaise k = suc (spare k)
 owing side CloseWake k = spare k
 owing side (ShutSet c) k = suc (spare k)
 owing side (ShutRaiseNe c) k = suc (spare k)
-owing side (ShutWakeNe c) k = ifSender side (spare k) (suc (spare k))
-owing side (ShutRaiseNf c f) k = ifSender side (spare k) (suc (spare k))
+owing side (ShutWakeNe c) k = if_sender side (spare k) (suc (spare k))
+owing side (ShutRaiseNf c f) k = if_sender side (spare k) (suc (spare k))
 owing side (ShutWakeNf c f) k = spare k
 
 spare-small : (k : ℕ) → spare k ≤ 1
@@ -97,7 +97,7 @@ owing-on side n t k straight = refl
 owing-on side n t k (around m) = refl
 
 -- a turn of the side that rings pays for each raise
-pub pays : (side : Side) (g : Sight) (s next : Step) → Leads g s next → (n : ℕ) → rungBy side s n + owing side next (roomBy s g.theirs) ≤ n + owing side s g.theirs
+pub pays : (side : Side) (g : Sight) (s next : Step) → Leads g s next → (n : ℕ) → rung_by side s n + owing side next (room_by s g.theirs) ≤ n + owing side s g.theirs
 pays side g s next idles n = omega arith
 pays side g s next (finds h) n = omega arith
 pays side g s next (blocks h q) n = omega arith
@@ -144,8 +144,8 @@ pays Recorder g s next shut-wakes-again n = omega arith
 
 -- a turn of the waiter's own: it counts anew at its epoch, and from there on it changes nothing
 pub holds_on : (side : Side) (g : Sight) (s next : Step) → Leads g s next → (u : Step) (n n' k' more : ℕ)
-    → (s ≡ Epoch → n' ≡ 0) → (waitsOn s ≡ true → (n' ≡ n) × (k' ≡ g.room)) → (holdsEpoch s ≡ true → n + owing side u g.room ≤ 2 + more)
-    → holdsEpoch next ≡ true → n' + owing side u k' ≤ 2 + more
+    → (s ≡ Epoch → n' ≡ 0) → (waits_on s ≡ true → (n' ≡ n) × (k' ≡ g.room)) → (holds_epoch s ≡ true → n + owing side u g.room ≤ 2 + more)
+    → holds_epoch next ≡ true → n' + owing side u k' ≤ 2 + more
 holds_on side g s next idles u n n' k' more zeroed still y o = absurd (let z : ◌≡◌ {A = ℕ} 0 1 = cc in omega arith)
 holds_on side g s next (finds h) u n n' k' more zeroed still y o = absurd (let z : ◌≡◌ {A = ℕ} 0 1 = cc in omega arith)
 holds_on side g s next (blocks h q) u n n' k' more zeroed still y o = absurd (let z : ◌≡◌ {A = ℕ} 0 1 = cc in omega arith)
@@ -158,9 +158,9 @@ holds_on side g s next (owes h) u n n' k' more zeroed still y o = absurd (let z 
 holds_on side g s next (passes h) u n n' k' more zeroed still y o = absurd (let z : ◌≡◌ {A = ℕ} 0 1 = cc in omega arith)
 holds_on side g s next raises u n n' k' more zeroed still y o = absurd (let z : ◌≡◌ {A = ℕ} 0 1 = cc in omega arith)
 holds_on side g s next wakes u n n' k' more zeroed still y o = absurd (let z : ◌≡◌ {A = ℕ} 0 1 = cc in omega arith)
-holds_on side g s next (enters h w) u n n' k' more zeroed still y o = absurd (let q = sym (ap holdsEpochAt (asks _ _ w)) ∙ o in let z : ◌≡◌ {A = ℕ} 0 1 = cc in omega arith)
+holds_on side g s next (enters h w) u n n' k' more zeroed still y o = absurd (let q = sym (ap holds_epoch_at (asks _ _ w)) ∙ o in let z : ◌≡◌ {A = ℕ} 0 1 = cc in omega arith)
 holds_on side g s next (finds-spin h) u n n' k' more zeroed still y o = absurd (let z : ◌≡◌ {A = ℕ} 0 1 = cc in omega arith)
-holds_on side g s next (spins h w) u n n' k' more zeroed still y o = absurd (let q = sym (ap holdsEpochAt (asks _ _ w)) ∙ o in let z : ◌≡◌ {A = ℕ} 0 1 = cc in omega arith)
+holds_on side g s next (spins h w) u n n' k' more zeroed still y o = absurd (let q = sym (ap holds_epoch_at (asks _ _ w)) ∙ o in let z : ◌≡◌ {A = ℕ} 0 1 = cc in omega arith)
 holds_on side g s next (stops h w) u n n' k' more zeroed still y o = absurd (let z : ◌≡◌ {A = ℕ} 0 1 = cc in omega arith)
 holds_on side g s next reads u n n' k' more zeroed still y o = rw (zeroed refl) (omega (arith, owing-small side u k'))
 holds_on side g s next (finds-again h) u n n' k' more zeroed still y o = absurd (let z : ◌≡◌ {A = ℕ} 0 1 = cc in omega arith)

@@ -13,23 +13,23 @@ use Rattle.types.specs.declared.Side.TheVariants.{Sender, Recorder}
 use Rattle.types.specs.declared.Room.{Room}
 use Rattle.types.specs.declared.Room.TheVariants.{Blocked, Free}
 use Rattle.rules.specs.Sides.{used, limit}
-use Rattle.rules.specs.Looks.{roomOf, wasBlocked}
+use Rattle.rules.specs.Looks.{room_of, was_blocked}
 
 -- a side with room, and one without
-abbrev pub asRoom : ℕ → Room
-asRoom zero = Blocked
-asRoom (suc k) = Free
+abbrev pub as_room : ℕ → Room
+as_room zero = Blocked
+as_room (suc k) = Free
 
 -- free slots for the sender, waiting notes for the recorder, of so many used
 abbrev pub room_for : Side → (capacity used : ℕ) → ℕ
 room_for Sender capacity u = capacity - u
 room_for Recorder capacity u = u
 
-as-blocked : (k : ℕ) → k ≡ 0 → asRoom k ≡ Blocked
+as-blocked : (k : ℕ) → k ≡ 0 → as_room k ≡ Blocked
 as-blocked zero e = refl
 as-blocked (suc k) e = absurd (omega arith)
 
-pub as-free : (k : ℕ) → 0 < k → asRoom k ≡ Free
+pub as-free : (k : ℕ) → 0 < k → as_room k ≡ Free
 as-free zero h = absurd (omega arith)
 as-free (suc k) h = refl
 
@@ -60,17 +60,17 @@ module _ (capacity v sent delivered : ℕ) (below : delivered ≤ sent) (above :
   frees Sender n = omega (arith, n)
   frees Recorder n = omega (arith, n)
 
-  seen-with : (side : Side) (u : ℕ) → u ≡ sent - delivered → (b : Bool) → eqb u (limit side capacity) ≡ b → pick b Blocked Free ≡ asRoom (room_for side capacity (sent - delivered))
+  seen-with : (side : Side) (u : ℕ) → u ≡ sent - delivered → (b : Bool) → eqb u (limit side capacity) ≡ b → pick b Blocked Free ≡ as_room (room_for side capacity (sent - delivered))
   seen-with side u q true e = sym (as-blocked (room_for side capacity (sent - delivered)) (limits side (sym q ∙ eqb-true u (limit side capacity) e)))
   seen-with side u q false e = sym (as-free (room_for side capacity (sent - delivered)) (frees side (λ p. eqb-false u (limit side capacity) e (q ∙ p))))
 
   -- a look at the other side's counter tells the room: never corrupt
-  pub sender-sees : roomOf Sender capacity head tail ≡ asRoom (room_for Sender capacity (sent - delivered))
-  unfolding roomOf
+  pub sender-sees : room_of Sender capacity head tail ≡ as_room (room_for Sender capacity (sent - delivered))
+  unfolding room_of
   sender-sees = rw (le-ltb capacity (minus 64 head tail) (omega (arith, used-is))) (seen-with Sender (minus 64 head tail) used-is (eqb (minus 64 head tail) capacity) refl)
 
-  pub recorder-sees : roomOf Recorder capacity tail head ≡ asRoom (room_for Recorder capacity (sent - delivered))
-  unfolding roomOf
+  pub recorder-sees : room_of Recorder capacity tail head ≡ as_room (room_for Recorder capacity (sent - delivered))
+  unfolding room_of
   recorder-sees = rw (le-ltb capacity (minus 64 head tail) (omega (arith, used-is))) (seen-with Recorder (minus 64 head tail) used-is (eqb (minus 64 head tail) 0) refl)
 
   -- one behind, and one before, by the wrapped difference
@@ -85,8 +85,8 @@ module _ (capacity v sent delivered : ℕ) (below : delivered ≤ sent) (above :
   back-used = rw one-back at (minus_plus 64 (minus 64 tail 1) (sent - delivered + 1) (omega (arith, minus-lt 64 tail 1)) (omega arith))
 
   -- the check after a store: the other was blocked where it has room for one now
-  pub sender-checks : wasBlocked Sender capacity head tail ≡ eqb (room_for Recorder capacity (sent - delivered)) 1
-  unfolding wasBlocked
+  pub sender-checks : was_blocked Sender capacity head tail ≡ eqb (room_for Recorder capacity (sent - delivered)) 1
+  unfolding was_blocked
   sender-checks =
       same_test tail (minus 64 head 1) (sent - delivered) 1
       (λ e.
@@ -97,6 +97,6 @@ module _ (capacity v sent delivered : ℕ) (below : delivered ≤ sent) (above :
       let g : plus 64 tail 1 ≡ head = rw (used-is, e) at (plus-minus 64 head tail (plus-lt 64 v sent) (omega (arith, plus-lt 64 v delivered))) in
       sym (rw (plus_comm 64 1 tail, g) at (minus_plus 64 1 tail (omega arith) (plus-lt 64 v delivered))))
 
-  pub recorder-checks : wasBlocked Recorder capacity tail head ≡ eqb (room_for Sender capacity (sent - delivered)) 1
-  unfolding wasBlocked
+  pub recorder-checks : was_blocked Recorder capacity tail head ≡ eqb (room_for Sender capacity (sent - delivered)) 1
+  unfolding was_blocked
   recorder-checks = same_test (minus 64 head (minus 64 tail 1)) capacity (capacity - (sent - delivered)) 1 (λ e. omega (arith, back-used)) (λ e. back-used ∙ omega arith)

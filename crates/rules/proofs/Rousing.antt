@@ -5,28 +5,28 @@ use mathlib.Core.List.{List, [], ◌∷◌, ◌++◌}
 use mathlib.Core.Logic.{◌⊎◌, inl, inr, ⊎_elim}
 use Prim.Native.Nat.{ℕ, zero, suc, ◌+◌, ◌-◌, ◌<◌, ◌≤◌}
 use native.Mathlib.Omega.{arith}
-use Rattle.words.specs.Le.{leAt}
+use Rattle.words.specs.Le.{le_at}
 use Rattle.types.specs.Pick.{pick}
 use Rattle.types.specs.declared.Side.{Side}
 use Rattle.types.specs.declared.Side.TheVariants.{Sender, Recorder}
 use Rattle.types.specs.declared.Step.{Step}
 use Rattle.types.specs.declared.Step.TheVariants.{Rest, Look, Asleep}
-use Rattle.layout.specs.Limits.{powerOk, slotOk}
-use Rattle.layout.specs.Header.{flagsAt}
+use Rattle.layout.specs.Limits.{power_ok, slot_ok}
+use Rattle.layout.specs.Header.{flags_at}
 use Rattle.layout.specs.Create.{created}
-use Rattle.rules.specs.Sides.{other, rings, sameSide}
-use Rattle.rules.specs.Take.{stanceOf}
-use Rattle.rules.specs.Run.{World, Happening, partyIn, happens, run, opened}
+use Rattle.rules.specs.Sides.{other, rings, same_side}
+use Rattle.rules.specs.Take.{stance_of}
+use Rattle.rules.specs.Run.{World, Happening, party_in, happens, run, opened}
 use Rattle.rules.specs.Premises.{AllTyped, AllFair}
-use Rattle.rules.specs.Stretch.{moves, tickBy}
+use Rattle.rules.specs.Stretch.{moves, tick_by}
 use Rattle.rules.specs.Claims.{Fresh, reached}
-use Rattle.rules.specs.Both.{doneBy, turnsBy, Ringing, checking, raising, waking, close-raising, close-waking, shut-raising, shut-waking, shut-raising-ne, shut-waking-ne, shut-raising-nf, shut-waking-nf, Rousing}
+use Rattle.rules.specs.Both.{done_by, turns_by, Ringing, checking, raising, waking, close-raising, close-waking, shut-raising, shut-waking, shut-raising-ne, shut-waking-ne, shut-raising-nf, shut-waking-nf, Rousing}
 use Rattle.rules.proofs.Views.{is-asleep}
 use Rattle.rules.proofs.Leads.{Sight, Leads, owes, raises, wakes, close-raises, close-wakes, shut-raises, shut-wakes, shut-raises-again, shut-wakes-again, stop_at}
-use Rattle.rules.proofs.Heard.{Cause, none, duty, setsNone}
+use Rattle.rules.proofs.Heard.{Cause, none, duty, sets_none}
 use Rattle.rules.proofs.Listening.{ReadyAt}
 use Rattle.rules.proofs.RealCalls.{Idle}
-use Rattle.rules.proofs.Costs.{ownRoom}
+use Rattle.rules.proofs.Costs.{own_room}
 use Rattle.rules.proofs.Fairly.{Ready, ready-happens, idle-duty}
 use Rattle.rules.proofs.RealRun.{power-fits, slot-fits, real-reached, real-happens}
 use Rattle.rules.proofs.Causes.{room-is, ready-reached}
@@ -34,10 +34,10 @@ use Rattle.rules.proofs.BeingRung.{ringing, has-cause, due}
 use Rattle.rules.proofs.Asks.{run-parts}
 use Rattle.rules.proofs.Deeds.{Goes, Stays, Deed, deed, goes, stays}
 use Rattle.rules.proofs.WaitFree.{room-more}
-use Rattle.rules.proofs.Real.{roomIn, Real}
+use Rattle.rules.proofs.Real.{room_in, Real}
 
 -- one that rings has a turn, which sets no flag; and after it is nearer to its wake, or rings no more
-pub rings-moves : (k n : ℕ) (τ : Side) (s : Step) → Ringing k τ s n → (moves (stanceOf s) ≡ true) × ((setsNone s ≡ true) × (1 ≤ n))
+pub rings-moves : (k n : ℕ) (τ : Side) (s : Step) → Ringing k τ s n → (moves (stance_of s) ≡ true) × ((sets_none s ≡ true) × (1 ≤ n))
 rings-moves k n τ s (checking e) = (refl, (refl, omega arith))
 rings-moves k n τ s raising = (refl, (refl, omega arith))
 rings-moves k n τ s waking = (refl, (refl, omega arith))
@@ -85,23 +85,23 @@ more-cause zero zero z h c = c
 -- a party that sleeps: it has cause, and whatever rings it does so in at most so many turns
 module _ (P S v : ℕ) (on : Bool) where
   abbrev Rung : (waiter mover : Side) → (n : ℕ) → World → Type 0
-  Rung σ τ n w = Cause (roomIn P S v on σ w.trace) (stop_at σ (leAt 4 w.region flagsAt)) × ((k m : ℕ) → Ringing k τ (partyIn w τ).step m → m ≤ n)
+  Rung σ τ n w = Cause (room_in P S v on σ w.trace) (stop_at σ (le_at 4 w.region flags_at)) × ((k m : ℕ) → Ringing k τ (party_in w τ).step m → m ≤ n)
 
   -- and what rings it
-  rung-now : (h : Bool) (σ τ : Side) (n : ℕ) (w : World) → (partyIn w σ).step ≡ Asleep → ReadyAt P S v on h σ τ w → Rung σ τ n w
-      → (m : ℕ) × (Ringing (roomIn P S v on σ w.trace) τ (partyIn w τ).step m × (m ≤ n))
+  rung-now : (h : Bool) (σ τ : Side) (n : ℕ) (w : World) → (party_in w σ).step ≡ Asleep → ReadyAt P S v on h σ τ w → Rung σ τ n w
+      → (m : ℕ) × (Ringing (room_in P S v on σ w.trace) τ (party_in w τ).step m × (m ≤ n))
   rung-now h σ τ n w asleep ready y =
-      let g = ringing τ (partyIn w τ).step (roomIn P S v on σ w.trace) (due P S v on h σ τ w asleep ready y.0) in
-      (g.0, (g.1, y.1 (roomIn P S v on σ w.trace) g.0 g.1))
+      let g = ringing τ (party_in w τ).step (room_in P S v on σ w.trace) (due P S v on h σ τ w asleep ready y.0) in
+      (g.0, (g.1, y.1 (room_in P S v on σ w.trace) g.0 g.1))
 
   module _ (n : ℕ) (h : Happening) (w u : World) where
     -- the sleeper's own turn
-    own-goes : (σ : Side) → (partyIn w σ).step ≡ Asleep → Goes P S v on h σ w u → Rung σ (other σ) n w → Rung σ (other σ) n u
+    own-goes : (σ : Side) → (party_in w σ).step ≡ Asleep → Goes P S v on h σ w u → Rung σ (other σ) n w → Rung σ (other σ) n u
     own-goes σ asleep d y =
-        let k : roomIn P S v on σ u.trace ≡ roomIn P S v on σ w.trace = d.own_room ∙ ap (λ (s : Step). ownRoom s (roomIn P S v on σ w.trace)) asleep in
-        (rw (k, d.flags (ap setsNone asleep)) y.0, by d.woken)
+        let k : room_in P S v on σ u.trace ≡ room_in P S v on σ w.trace = d.own_room ∙ ap (λ (s : Step). own_room s (room_in P S v on σ w.trace)) asleep in
+        (rw (k, d.flags (ap sets_none asleep)) y.0, by d.woken)
       where
-        by : ((partyIn u (other σ)).step ≡ (partyIn w (other σ)).step) ⊎ (((partyIn w (other σ)).step ≡ Asleep) × ((partyIn u (other σ)).step ≡ Look)) → (k m : ℕ) → Ringing k (other σ) (partyIn u (other σ)).step m → m ≤ n
+        by : ((party_in u (other σ)).step ≡ (party_in w (other σ)).step) ⊎ (((party_in w (other σ)).step ≡ Asleep) × ((party_in u (other σ)).step ≡ Look)) → (k m : ℕ) → Ringing k (other σ) (party_in u (other σ)).step m → m ≤ n
         by (inl e) k m r = y.1 k m (rw e at r)
         by (inr e) k m r = absurd (rings-some k m (other σ) Look (rw e.1 at r) refl)
 
@@ -112,41 +112,41 @@ module _ (P S v : ℕ) (on : Bool) where
     their-stays : (τ : Side) → Stays P S v on h τ w u → Rung (other τ) τ n w → Rung (other τ) τ n u
     their-stays τ d y = (rw (d.trace, d.stop (other τ)) y.0, by d.own-step)
       where
-        by : ((partyIn u τ).step ≡ (partyIn w τ).step) ⊎ ((((partyIn w τ).step ≡ Rest) ⊎ ((partyIn w τ).step ≡ Asleep)) × Idle (partyIn u τ).step) → (k m : ℕ) → Ringing k τ (partyIn u τ).step m → m ≤ n
+        by : ((party_in u τ).step ≡ (party_in w τ).step) ⊎ ((((party_in w τ).step ≡ Rest) ⊎ ((party_in w τ).step ≡ Asleep)) × Idle (party_in u τ).step) → (k m : ℕ) → Ringing k τ (party_in u τ).step m → m ≤ n
         by (inl e) k m r = y.1 k m (rw e at r)
-        by (inr e) k m r = absurd (rings-some k m τ (partyIn u τ).step r (idle-duty τ (partyIn u τ).step e.1))
+        by (inr e) k m r = absurd (rings-some k m τ (party_in u τ).step r (idle-duty τ (party_in u τ).step e.1))
 
-    their-goes : (b : Bool) (τ : Side) → (partyIn w (other τ)).step ≡ Asleep → ReadyAt P S v on b (other τ) τ w → Goes P S v on h τ w u → Rung (other τ) τ (suc n) w → Rung (other τ) τ n u
+    their-goes : (b : Bool) (τ : Side) → (party_in w (other τ)).step ≡ Asleep → ReadyAt P S v on b (other τ) τ w → Goes P S v on h τ w u → Rung (other τ) τ (suc n) w → Rung (other τ) τ n u
     their-goes b τ asleep ready d y =
         let g = rung-now b (other τ) τ (suc n) w asleep ready y in
-        let f = rings-moves _ _ τ (partyIn w τ).step g.1.0 in (
-          rw (d.flags f.1.0) (more-cause (roomIn P S v on (other τ) w.trace) (roomIn P S v on (other τ) u.trace) _ (omega (arith, d.other-room, room-more (partyIn w τ).step (roomIn P S v on (other τ) w.trace))) y.0),
-          λ k m r. omega (arith, nearer-wake d.sight _ k _ m τ (partyIn w τ).step (partyIn u τ).step g.1.0 d.leads r, g.1.1),
+        let f = rings-moves _ _ τ (party_in w τ).step g.1.0 in (
+          rw (d.flags f.1.0) (more-cause (room_in P S v on (other τ) w.trace) (room_in P S v on (other τ) u.trace) _ (omega (arith, d.other-room, room-more (party_in w τ).step (room_in P S v on (other τ) w.trace))) y.0),
+          λ k m r. omega (arith, nearer-wake d.sight _ k _ m τ (party_in w τ).step (party_in u τ).step g.1.0 d.leads r, g.1.1),
         )
 
   -- so many turns are left, but for this one
   abbrev Less : (side : Side) → (n : ℕ) → (h : Happening) → (w u : World) → (m : Side) → Type 0
-  Less side n h w u m = (j : ℕ) × (Rung side (other side) j u × (n ≡ pick (sameSide (other side) m) (tickBy moves h w) 0 + j))
+  Less side n h w u m = (j : ℕ) × (Rung side (other side) j u × (n ≡ pick (same_side (other side) m) (tick_by moves h w) 0 + j))
 
   module _ (n : ℕ) (h : Happening) (w u : World) where
-    own-deed : (σ : Side) → (partyIn w σ).step ≡ Asleep → Deed P S v on h σ w u → Rung σ (other σ) n w → Rung σ (other σ) n u
+    own-deed : (σ : Side) → (party_in w σ).step ≡ Asleep → Deed P S v on h σ w u → Rung σ (other σ) n w → Rung σ (other σ) n u
     own-deed σ asleep (goes d) y = own-goes n h w u σ asleep d y
     own-deed σ asleep (stays d) y = own-stays n h w u σ d y
 
-    their-deed : (b : Bool) (τ : Side) → (partyIn w (other τ)).step ≡ Asleep → ReadyAt P S v on b (other τ) τ w → Deed P S v on h τ w u → Rung (other τ) τ n w → (j : ℕ) × (Rung (other τ) τ j u × (n ≡ tickBy moves h w + j))
+    their-deed : (b : Bool) (τ : Side) → (party_in w (other τ)).step ≡ Asleep → ReadyAt P S v on b (other τ) τ w → Deed P S v on h τ w u → Rung (other τ) τ n w → (j : ℕ) × (Rung (other τ) τ j u × (n ≡ tick_by moves h w + j))
     their-deed b τ asleep ready (stays d) y = (n, (their-stays n h w u τ d y, omega (arith, d.tick moves)))
     their-deed b τ asleep ready (goes d) y = by n y
       where
-        by : (n : ℕ) → Rung (other τ) τ n w → (j : ℕ) × (Rung (other τ) τ j u × (n ≡ tickBy moves h w + j))
+        by : (n : ℕ) → Rung (other τ) τ n w → (j : ℕ) × (Rung (other τ) τ j u × (n ≡ tick_by moves h w + j))
         by zero y =
             let g = rung-now b (other τ) τ zero w asleep ready y in
-            absurd (omega (arith, (rings-moves _ _ τ (partyIn w τ).step g.1.0).1.1, g.1.1))
+            absurd (omega (arith, (rings-moves _ _ τ (party_in w τ).step g.1.0).1.1, g.1.1))
         by (suc j) y =
             let g = rung-now b (other τ) τ (suc j) w asleep ready y in
-            let e : tickBy moves h w ≡ 1 = d.tick moves ∙ ap (λ (x : Bool). pick x 1 0) (rings-moves _ _ τ (partyIn w τ).step g.1.0).0 in
+            let e : tick_by moves h w ≡ 1 = d.tick moves ∙ ap (λ (x : Bool). pick x 1 0) (rings-moves _ _ τ (party_in w τ).step g.1.0).0 in
             (j, (their-goes j h w u b τ asleep ready d y, omega arith))
 
-    one-deed : (side m : Side) → (partyIn w side).step ≡ Asleep → Ready P S v on side w → Deed P S v on h m w u → Rung side (other side) n w → Less side n h w u m
+    one-deed : (side m : Side) → (party_in w side).step ≡ Asleep → Ready P S v on side w → Deed P S v on h m w u → Rung side (other side) n w → Less side n h w u m
     one-deed Sender Sender asleep ready d y = (n, (own-deed Sender asleep d y, omega arith))
     one-deed Sender Recorder asleep ready d y = their-deed (rings Recorder on) Recorder asleep ready d y
     one-deed Recorder Sender asleep ready d y = their-deed true Sender asleep ready d y
@@ -154,35 +154,35 @@ module _ (P S v : ℕ) (on : Bool) where
 
   abbrev Wakes : Side → (hs : List Happening) → (n : ℕ) → World → Type 0
   Wakes side hs n w =
-      (first : List Happening) × ((rest : List Happening) × ((hs ≡ first ++ rest) × ((turnsBy moves (other side) first w ≤ n) × ((partyIn (run first w) side).step ≡ Asleep → ⊥))))
+      (first : List Happening) × ((rest : List Happening) × ((hs ≡ first ++ rest) × ((turns_by moves (other side) first w ≤ n) × ((party_in (run first w) side).step ≡ Asleep → ⊥))))
 
-  module _ (power-ok : powerOk P ≡ true) (Slot-ok : slotOk S ≡ true) (side : Side) where
-    awake-now : (hs : List Happening) (n : ℕ) (w : World) → ((partyIn w side).step ≡ Asleep → ⊥) → Wakes side hs n w
+  module _ (power-ok : power_ok P ≡ true) (Slot-ok : slot_ok S ≡ true) (side : Side) where
+    awake-now : (hs : List Happening) (n : ℕ) (w : World) → ((party_in w side).step ≡ Asleep → ⊥) → Wakes side hs n w
     unfolding run
     awake-now hs n w e = ([], (hs, (refl, (omega arith, e))))
 
-    one_more : (h : Happening) (hs : List Happening) (n j : ℕ) (w : World) → n ≡ pick (sameSide (other side) (doneBy h)) (tickBy moves h w) 0 + j → Wakes side hs j (happens h w) → Wakes side (h ∷ hs) n w
+    one_more : (h : Happening) (hs : List Happening) (n j : ℕ) (w : World) → n ≡ pick (same_side (other side) (done_by h)) (tick_by moves h w) 0 + j → Wakes side hs j (happens h w) → Wakes side (h ∷ hs) n w
     unfolding run
     one_more h hs n j w e (first, (rest, (parts, (few, up)))) = (h ∷ first, (rest, (ap (λ (x : List Happening). h ∷ x) parts, (omega arith, up))))
 
-    rouse : (hs : List Happening) (w : World) → AllTyped hs → AllFair side hs w → Real P S v on w → Ready P S v on side w → (n : ℕ) → ((partyIn w side).step ≡ Asleep → Rung side (other side) n w) → n ≤ turnsBy moves (other side) hs w → Wakes side hs n w
+    rouse : (hs : List Happening) (w : World) → AllTyped hs → AllFair side hs w → Real P S v on w → Ready P S v on side w → (n : ℕ) → ((party_in w side).step ≡ Asleep → Rung side (other side) n w) → n ≤ turns_by moves (other side) hs w → Wakes side hs n w
     unfolding run
-    rouse [] w t f real ready n y long = by (is-asleep (partyIn w side).step)
+    rouse [] w t f real ready n y long = by (is-asleep (party_in w side).step)
       where
-        by : ((partyIn w side).step ≡ Asleep) ⊎ ((partyIn w side).step ≡ Asleep → ⊥) → Wakes side [] n w
+        by : ((party_in w side).step ≡ Asleep) ⊎ ((party_in w side).step ≡ Asleep → ⊥) → Wakes side [] n w
         by (inr e) = awake-now [] n w e
         by (inl e) =
             let g = rung-now (rings (other side) on) side (other side) n w e ready (y e) in
-            absurd (omega (arith, (rings-moves _ _ (other side) (partyIn w (other side)).step g.1.0).1.1, g.1.1))
+            absurd (omega (arith, (rings-moves _ _ (other side) (party_in w (other side)).step g.1.0).1.1, g.1.1))
     rouse (h ∷ hs) w t f real ready n y long =
         ⊎_elim
         (λ e.
-        let d = one-deed n h w (happens h w) side (doneBy h) e ready (deed P S v on power-ok Slot-ok h w t.0 real) (y e) in
+        let d = one-deed n h w (happens h w) side (done_by h) e ready (deed P S v on power-ok Slot-ok h w t.0 real) (y e) in
         let q = d.1.1 in
         one_more h hs n d.0 w q
         (rouse hs (happens h w) t.1 f.1 (real-happens P S v on power-ok Slot-ok h w t.0 real) (ready-happens P S v on power-ok Slot-ok side h w t.0 f.0 real ready) d.0 (λ a. d.1.0) (omega arith)))
         (awake-now (h ∷ hs) n w)
-        (is-asleep (partyIn w side).step)
+        (is-asleep (party_in w side).step)
 
 -- a step rings in one number of turns
 pub one_number : (k j n m : ℕ) (τ : Side) (s : Step) → Ringing k τ s n → Ringing j τ s m → m ≡ n
@@ -203,7 +203,7 @@ module _ (r : List ℕ) (P S : ℕ) (on : Bool) (v : ℕ) (fresh : Fresh r P S o
   rousing side hs ms n o t f ring long =
       let w = reached r P S on v hs in
       let e = room-is r P S on v fresh side hs o.0 in
-      let c = has-cause (roomIn P S v on side w.trace) (stop_at side (leAt 4 w.region flagsAt)) (subst (λ (k : ℕ). (0 < k) ⊎ (stop_at side (leAt 4 w.region flagsAt) ≡ true)) e o.1.1.1) in
+      let c = has-cause (room_in P S v on side w.trace) (stop_at side (le_at 4 w.region flags_at)) (subst (λ (k : ℕ). (0 < k) ⊎ (stop_at side (le_at 4 w.region flags_at) ≡ true)) e o.1.1.1) in
       let z = rouse P S v on (power-fits r P S on v fresh) (slot-fits r P S on v fresh) side ms w t f (real-reached r P S on v fresh hs o.0) (ready-reached r P S on v fresh side hs o.0 o.1.0) n
-      (λ a. (c, λ k m q. omega (arith, one_number _ k n m (other side) (partyIn w (other side)).step ring q))) long in
-      (z.0, (z.1.0, (z.1.1.0, (z.1.1.1.0, subst (λ (u : World). (partyIn u side).step ≡ Asleep → ⊥) (sym (run-parts hs z.0 (opened (created r P S on v)))) z.1.1.1.1))))
+      (λ a. (c, λ k m q. omega (arith, one_number _ k n m (other side) (party_in w (other side)).step ring q))) long in
+      (z.0, (z.1.0, (z.1.1.0, (z.1.1.1.0, subst (λ (u : World). (party_in u side).step ≡ Asleep → ⊥) (sym (run-parts hs z.0 (opened (created r P S on v)))) z.1.1.1.1))))

@@ -6,7 +6,7 @@ use mathlib.Core.Logic.{◌⊎◌, inl, inr, ⊎_elim}
 use Prim.Native.Nat.{ℕ, ◌+◌, ◌%◌, ◌^◌, ◌<◌}
 use native.Mathlib.Omega.{arith}
 use native.Mathlib.Nat.{mod-add-mod, mod-mod, add-zero, add_assoc}
-use Rattle.words.specs.Le.{leAt}
+use Rattle.words.specs.Le.{le_at}
 use Rattle.words.specs.Wrap.{plus, next}
 use Rattle.words.proofs.Runs.{and_right}
 use Rattle.types.specs.Pick.{pick}
@@ -21,19 +21,19 @@ use Rattle.types.specs.declared.Door.TheVariants.{Shut, Left, Open}
 use Rattle.types.specs.declared.Step.{Step}
 use Rattle.types.specs.declared.Step.TheVariants.{Rest, Look, Spin, Epoch, Asleep, LastLook}
 use Rattle.types.specs.declared.Access.{Access}
-use Rattle.layout.specs.Flags.{worth, bitOn, closeMark}
-use Rattle.layout.specs.Header.{flagsAt, bellAt}
-use Rattle.rules.specs.Sides.{other, sleepBell}
-use Rattle.rules.specs.Looks.{doorOf}
-use Rattle.rules.specs.Take.{stanceOf, counterAfter, closedAfter}
+use Rattle.layout.specs.Flags.{worth, bit_on, close_mark}
+use Rattle.layout.specs.Header.{flags_at, bell_at}
+use Rattle.rules.specs.Sides.{other, sleep_bell}
+use Rattle.rules.specs.Looks.{door_of}
+use Rattle.rules.specs.Take.{stance_of, counter_after, closed_after}
 use Rattle.rules.specs.Next.{next_at}
-use Rattle.rules.specs.Calls.{isSleeping, at}
-use Rattle.rules.specs.Access.{leavesOf}
+use Rattle.rules.specs.Calls.{is_sleeping, at}
+use Rattle.rules.specs.Access.{leaves_of}
 use Rattle.rules.specs.Bench.{hears, wakened}
-use Rattle.rules.specs.Run.{Trace, traced, rungOf}
+use Rattle.rules.specs.Run.{Trace, traced, rung_of}
 use Rattle.rules.specs.Phase.{Phase, resting, looking, copying, publishing, telling, asking, armed, poised, waits, sleeps as asleep, glancing, leaving, phase}
 use Rattle.rules.proofs.Views.{sleeping-step}
-use Rattle.rules.proofs.After.{bellBy, bell-after}
+use Rattle.rules.proofs.After.{bell_by, bell-after}
 use Rattle.rules.proofs.Does.{Does, nothing, looks, flags, reads as epoch, writes, takes, stores as store, raises as ring, closes as close, shuts as shut, waits as wait, wakes as wake}
 use Rattle.rules.proofs.Leads.{Sight, asks, Leads, idles, finds, blocks, gives_up, copies, spills, tells, stores, owes, passes, raises, wakes, enters, stops, finds-spin, spins, reads, finds-again, stays, enters-again, stops-again, sleeps, returns, ends, dreams, glances, glances-again, times-out, finds-last, finds-none, closes, closes-alone, close-raises, close-wakes, shuts, shut-raises, shut-wakes, shut-raises-again, shut-wakes-again}
 use Rattle.rules.proofs.Parting.{parts-on, glances-left, spins-on, closed-by}
@@ -45,8 +45,8 @@ abbrev pub moved : Party → Step → Step → Party
 moved p s next =
     record {
       own = p.own;
-      closed = closedAfter (stanceOf s) p.closed;
-      counter = counterAfter (stanceOf s) p.counter;
+      closed = closed_after (stance_of s) p.closed;
+      counter = counter_after (stance_of s) p.counter;
       blocking = p.blocking;
       tag = p.tag;
       length = p.length;
@@ -63,23 +63,23 @@ pub record Roused (q r : Party) : Type 0 where
 
 pub roused : (side : Side) (q : Party) (w : Woke) → Roused q (wakened side q w)
 unfolding wakened
-roused side q w = by (hears side w && isSleeping (stanceOf q.step)) refl
+roused side q w = by (hears side w && is_sleeping (stance_of q.step)) refl
   where
-    by : (b : Bool) → (hears side w && isSleeping (stanceOf q.step)) ≡ b → Roused q (pick b (at Look q) q)
+    by : (b : Bool) → (hears side w && is_sleeping (stance_of q.step)) ≡ b → Roused q (pick b (at Look q) q)
     by true e =
         record {
           own = refl;
           closed = refl;
           counter = refl;
           blocking = refl;
-          step = inr (sleeping-step q.step (and_right (hears side w) (isSleeping (stanceOf q.step)) e), refl);
+          step = inr (sleeping-step q.step (and_right (hears side w) (is_sleeping (stance_of q.step)) e), refl);
         }
     by false e = record { own = refl; closed = refl; counter = refl; blocking = refl; step = inl refl }
 
 -- the other's close alone
-left-bit : (side : Side) (f : ℕ) → doorOf side f ≡ Left → bitOn (worth (closeMark (other side))) f ≡ true
-unfolding doorOf
-left-bit side f e = by (bitOn (worth ShutMark) f) (bitOn (worth (closeMark (other side))) f) e
+left-bit : (side : Side) (f : ℕ) → door_of side f ≡ Left → bit_on (worth (close_mark (other side))) f ≡ true
+unfolding door_of
+left-bit side f e = by (bit_on (worth ShutMark) f) (bit_on (worth (close_mark (other side))) f) e
   where
     by : (a c : Bool) → pick a Shut (pick c Left Open) ≡ Left → c ≡ true
     by true c e = absurd (let z : ◌≡◌ {A = ℕ} 0 1 = cc in omega arith)
@@ -116,31 +116,31 @@ since-raised leaving bell n h = tt
 
 module _ (P S v : ℕ) (on : Bool) (r : List ℕ) (p : Party) (payload : List ℕ) (fixed : Fixed P S v on r) (t : Trace) (buffer : List ℕ) where
   abbrev left : Access → List ℕ
-  left a = leavesOf r p.own a p.tag payload
+  left a = leaves_of r p.own a p.tag payload
 
   abbrev told : Access → Trace
   told a = traced a p payload buffer t
 
-  pub seated-own : (side : Side) (g : Sight) → g.door ≡ doorOf side (leAt 4 r flagsAt) → g.spins ≡ p.own.spins → (s next : Step) (a : Access) → p.step ≡ s → p.own.attached ≡ true → Does side p.counter s a
-      → Leads g s next → Seated P S v on side p t (leAt 4 r flagsAt) → Seated P S v on side (moved p s next) (told a) (leAt 4 (left a) flagsAt)
+  pub seated-own : (side : Side) (g : Sight) → g.door ≡ door_of side (le_at 4 r flags_at) → g.spins ≡ p.own.spins → (s next : Step) (a : Access) → p.step ≡ s → p.own.attached ≡ true → Does side p.counter s a
+      → Leads g s next → Seated P S v on side p t (le_at 4 r flags_at) → Seated P S v on side (moved p s next) (told a) (le_at 4 (left a) flags_at)
   seated-own side g door count s next a at here d leads h =
       rw (flags-are P S v on r p payload fixed a) record {
-        closed-bit = close-bit-own side p.counter s a (leAt 4 r flagsAt) fixed.small d ∙ ap (closedAfter (stanceOf s)) h.closed-bit;
-        attached-bit = attach-bit side side p.counter s a (leAt 4 r flagsAt) fixed.small d ∙ h.attached-bit;
-        in_place = λ e. ((h.in_place e).0, ap (counterAfter (stanceOf s)) (h.in_place e).1 ∙ counts-own P S v on r p payload fixed t buffer side s a d);
+        closed-bit = close-bit-own side p.counter s a (le_at 4 r flags_at) fixed.small d ∙ ap (closed_after (stance_of s)) h.closed-bit;
+        attached-bit = attach-bit side side p.counter s a (le_at 4 r flags_at) fixed.small d ∙ h.attached-bit;
+        in_place = λ e. ((h.in_place e).0, ap (counter_after (stance_of s)) (h.in_place e).1 ∙ counts-own P S v on r p payload fixed t buffer side s a d);
         empty = λ e. absurd (let z : ◌≡◌ {A = ℕ} 0 1 = cc in omega arith);
         over = λ e. parts-on g s next leads (⊎_elim (λ q. sym (ap (λ (u : Step). parts (phase u)) at) ∙ h.over (sym q ∙ e)) (ap (λ (u : Step). parts (phase u))) (closed-by side p.counter s a d p.closed));
         few = h.few;
         spun = λ n. rw (sym count) (spins-on g s next leads (λ i q. rw count (h.spun i (at ∙ q))) n);
-        heard = λ e. flag_up a (leAt 4 r flagsAt) fixed.small (closeMark (other side)) (left-bit side (leAt 4 r flagsAt) (sym door ∙ glances-left g s next leads e));
+        heard = λ e. flag_up a (le_at 4 r flags_at) fixed.small (close_mark (other side)) (left-bit side (le_at 4 r flags_at) (sym door ∙ glances-left g s next leads e));
       }
 
   pub seated-other : (side : Side) (s : Step) (a : Access) (q q' : Party) → Roused q q' → Does side p.counter s a
-      → Seated P S v on (other side) q t (leAt 4 r flagsAt) → Seated P S v on (other side) q' (told a) (leAt 4 (left a) flagsAt)
+      → Seated P S v on (other side) q t (le_at 4 r flags_at) → Seated P S v on (other side) q' (told a) (le_at 4 (left a) flags_at)
   seated-other side s a q q' o d h =
       rw (flags-are P S v on r p payload fixed a) record {
-        closed-bit = close-bit-other side p.counter s a (leAt 4 r flagsAt) fixed.small d ∙ h.closed-bit ∙ sym o.closed;
-        attached-bit = attach-bit (other side) side p.counter s a (leAt 4 r flagsAt) fixed.small d ∙ h.attached-bit ∙ ap (λ (x : Own). x.attached) (sym o.own);
+        closed-bit = close-bit-other side p.counter s a (le_at 4 r flags_at) fixed.small d ∙ h.closed-bit ∙ sym o.closed;
+        attached-bit = attach-bit (other side) side p.counter s a (le_at 4 r flags_at) fixed.small d ∙ h.attached-bit ∙ ap (λ (x : Own). x.attached) (sym o.own);
         in_place = λ e.
             let k = h.in_place (ap (λ (x : Own). x.attached) (sym o.own) ∙ e) in
             (rw o.own k.0, o.counter ∙ k.1 ∙ ap (plus 64 v) (sym (counts-other P S v on r p payload fixed t buffer side s a d)));
@@ -153,26 +153,26 @@ module _ (P S v : ℕ) (on : Bool) (r : List ℕ) (p : Party) (payload : List �
         few = rw o.own h.few;
         spun = λ n. rw o.own (roused-elim o (λ u. u ≡ Spin n → n < q.own.spins) (h.spun n) (λ z w. absurd (let y : ◌≡◌ {A = ℕ} 0 1 = cc in omega arith)));
         heard = λ e.
-            flag_up a (leAt 4 r flagsAt) fixed.small (closeMark (other (other side)))
-            (roused-elim o (λ u. u ≡ LastLook false → bitOn (worth (closeMark (other (other side)))) (leAt 4 r flagsAt) ≡ true) h.heard (λ z w. absurd (let y : ◌≡◌ {A = ℕ} 0 1 = cc in omega arith)) e);
+            flag_up a (le_at 4 r flags_at) fixed.small (close_mark (other (other side)))
+            (roused-elim o (λ u. u ≡ LastLook false → bit_on (worth (close_mark (other (other side)))) (le_at 4 r flags_at) ≡ true) h.heard (λ z w. absurd (let y : ◌≡◌ {A = ℕ} 0 1 = cc in omega arith)) e);
       }
 
   -- the own bell after an access that does not raise it
-  bell-own : (side : Side) (a : Access) → bellBy a (sleepBell side) (leAt 4 r (bellAt (sleepBell side))) ≡ leAt 4 r (bellAt (sleepBell side))
-      → leAt 4 (left a) (bellAt (sleepBell side)) ≡ leAt 4 r (bellAt (sleepBell side))
-  bell-own side a e = bell-after r p.own p.tag payload (header-in P S v on r p payload fixed) (sleepBell side) a ∙ e
+  bell-own : (side : Side) (a : Access) → bell_by a (sleep_bell side) (le_at 4 r (bell_at (sleep_bell side))) ≡ le_at 4 r (bell_at (sleep_bell side))
+      → le_at 4 (left a) (bell_at (sleep_bell side)) ≡ le_at 4 r (bell_at (sleep_bell side))
+  bell-own side a e = bell-after r p.own p.tag payload (header-in P S v on r p payload fixed) (sleep_bell side) a ∙ e
 
   epoch-read : (b : ℕ) → b % 2 ^ 32 ≡ plus 32 (b % 2 ^ 32) 0
   unfolding plus
   epoch-read b = sym (ap (λ (x : ℕ). x % 2 ^ 32) (add-zero (b % 2 ^ 32)) ∙ mod-mod b (2 ^ 32))
 
-  rung-anew : (side : Side) → rungOf side (told (next_at Epoch side p.counter)) ≡ 0
+  rung-anew : (side : Side) → rung_of side (told (next_at Epoch side p.counter)) ≡ 0
   rung-anew Sender = refl
   rung-anew Recorder = refl
 
-  pub since-own : (side : Side) (g : Sight) → g.bell ≡ leAt 4 r (bellAt (sleepBell side)) → (s next : Step) → Leads g s next
-      → Since (phase s) (leAt 4 r (bellAt (sleepBell side))) (rungOf side t)
-      → Since (phase next) (leAt 4 (left (next_at s side p.counter)) (bellAt (sleepBell side))) (rungOf side (told (next_at s side p.counter)))
+  pub since-own : (side : Side) (g : Sight) → g.bell ≡ le_at 4 r (bell_at (sleep_bell side)) → (s next : Step) → Leads g s next
+      → Since (phase s) (le_at 4 r (bell_at (sleep_bell side))) (rung_of side t)
+      → Since (phase next) (le_at 4 (left (next_at s side p.counter)) (bell_at (sleep_bell side))) (rung_of side (told (next_at s side p.counter)))
   since-own side g at s next idles y = tt
   since-own side g at s next (finds h) y = tt
   since-own side g at s next (blocks h q) y = tt
@@ -189,7 +189,7 @@ module _ (P S v : ℕ) (on : Bool) (r : List ℕ) (p : Party) (payload : List �
   since-own side g at s next (finds-spin h) y = tt
   since-own side g at s next (spins h o) y = rw (asks _ _ o) tt
   since-own side g at s next (stops h u) y = tt
-  since-own side g at s next reads y = rw (at, bell-own side (next_at Epoch side p.counter) refl, rung-anew side) (epoch-read (leAt 4 r (bellAt (sleepBell side))))
+  since-own side g at s next reads y = rw (at, bell-own side (next_at Epoch side p.counter) refl, rung-anew side) (epoch-read (le_at 4 r (bell_at (sleep_bell side))))
   since-own side g at s next (finds-again h) y = tt
   since-own side g at s next (stays h) y = rw (bell-own side (next_at s side p.counter) refl) y
   since-own side g at s next (enters-again h) y = rw (bell-own side (next_at s side p.counter) refl) y
@@ -215,13 +215,13 @@ module _ (P S v : ℕ) (on : Bool) (r : List ℕ) (p : Party) (payload : List �
 
   -- the other's bell and its count of raises go together
   pub since-other : (side : Side) (s : Step) (a : Access) (ph : Phase) → Does side p.counter s a
-      → Since ph (leAt 4 r (bellAt (sleepBell (other side)))) (rungOf (other side) t)
-      → Since ph (leAt 4 (left a) (bellAt (sleepBell (other side)))) (rungOf (other side) (told a))
+      → Since ph (le_at 4 r (bell_at (sleep_bell (other side)))) (rung_of (other side) t)
+      → Since ph (le_at 4 (left a) (bell_at (sleep_bell (other side)))) (rung_of (other side) (told a))
   since-other side s a ph d y =
-      rw (bell-after r p.own p.tag payload (header-in P S v on r p payload fixed) (sleepBell (other side)) a) (by side s a d y)
+      rw (bell-after r p.own p.tag payload (header-in P S v on r p payload fixed) (sleep_bell (other side)) a) (by side s a d y)
     where
-      by : (side : Side) (s : Step) (a : Access) → Does side p.counter s a → Since ph (leAt 4 r (bellAt (sleepBell (other side)))) (rungOf (other side) t)
-          → Since ph (bellBy a (sleepBell (other side)) (leAt 4 r (bellAt (sleepBell (other side))))) (rungOf (other side) (told a))
+      by : (side : Side) (s : Step) (a : Access) → Does side p.counter s a → Since ph (le_at 4 r (bell_at (sleep_bell (other side)))) (rung_of (other side) t)
+          → Since ph (bell_by a (sleep_bell (other side)) (le_at 4 r (bell_at (sleep_bell (other side))))) (rung_of (other side) (told a))
       by side s a (nothing q) y = y
       by side s a (looks q) y = y
       by side s a (flags q) y = y
@@ -233,10 +233,10 @@ module _ (P S v : ℕ) (on : Bool) (r : List ℕ) (p : Party) (payload : List �
       by Recorder s a (takes q) y = y
       by Sender s a store y = y
       by Recorder s a store y = y
-      by Sender s a (ring q NotEmpty) y = since-raised ph (leAt 4 r (bellAt NotEmpty)) t.rungRecorder y
+      by Sender s a (ring q NotEmpty) y = since-raised ph (le_at 4 r (bell_at NotEmpty)) t.rung_recorder y
       by Sender s a (ring q NotFull) y = y
       by Recorder s a (ring q NotEmpty) y = y
-      by Recorder s a (ring q NotFull) y = since-raised ph (leAt 4 r (bellAt NotFull)) t.rungSender y
+      by Recorder s a (ring q NotFull) y = since-raised ph (le_at 4 r (bell_at NotFull)) t.rung_sender y
       by side s a close y = y
       by side s a shut y = y
       by side s a wait y = y

@@ -7,7 +7,7 @@ use Prim.Native.Nat.{ℕ, ◌<◌}
 use native.Mathlib.Omega.{arith}
 use borrow.Author.Tests.{ltb-true}
 use lib.Dec.{ltb, eqb}
-use Rattle.words.specs.Le.{leAt}
+use Rattle.words.specs.Le.{le_at}
 use Rattle.types.specs.Pick.{pick}
 use Rattle.types.specs.declared.Side.{Side}
 use Rattle.types.specs.declared.Party.{Party}
@@ -20,13 +20,13 @@ use Rattle.types.specs.declared.Step.TheVariants.{Rest, Look, Spin, Again, LastL
 use Rattle.types.specs.declared.Answer.{Answer}
 use Rattle.types.specs.declared.Answer.TheVariants.{GoesOn}
 use Rattle.layout.specs.Limits.{capacity}
-use Rattle.layout.specs.Header.{counterAt}
+use Rattle.layout.specs.Header.{counter_at}
 use Rattle.rules.specs.Sides.{other, used, limit}
-use Rattle.rules.specs.Looks.{roomWith, roomOf, roomHere}
-use Rattle.rules.specs.Take.{stepAfter, answer_of, move_of}
-use Rattle.rules.specs.Next.{nextSpec}
+use Rattle.rules.specs.Looks.{room_with, room_of, room_here}
+use Rattle.rules.specs.Take.{step_after, answer_of, move_of}
+use Rattle.rules.specs.Next.{next_spec}
 use Rattle.rules.specs.Access.{value_of}
-use Rattle.rules.specs.Turn.{errorOf, taken, turnSpec}
+use Rattle.rules.specs.Turn.{error_of, taken, turn_spec}
 use Rattle.rules.specs.Given.{Looking, looks, looks_on, looks-again, looks-last, RunsOn, too_many, shut-set, shut-raised-ne, shut-woke-ne, shut-raised-nf, EndsWith, goes_on, StandsThere}
 use Rattle.rules.specs.Anywhere.{Corrupting, sets, raises-ne, wakes-ne, raises-nf, wakes-nf, CorruptSeen}
 use Rattle.rules.proofs.TurnRows.{runs_to, ends-first}
@@ -36,11 +36,11 @@ use Rattle.rules.proofs.Leaving.{made, party-is}
 pub stands-there : StandsThere
 unfolding made
 stands-there side r p i o f s g row =
-    ap (λ (q : Party). q.step) (party-is side r p i o f g) ∙ ap (λ (m : Move). stepAfter m p.step) (runs_to p (value_of r p.own (nextSpec p)) (errorOf f) row)
+    ap (λ (q : Party). q.step) (party-is side r p i o f g) ∙ ap (λ (m : Move). step_after m p.step) (runs_to p (value_of r p.own (next_spec p)) (error_of f) row)
 
 module _ (p : Party) (v e : ℕ) where
   -- a row of 255 that leads into corruption's shutdown comes from it, or from a look
-  from_row : {s : Step} → RunsOn p v e s → Corrupting s → Corrupting p.step ⊎ (Looking p.step × (roomHere p.own p.counter v ≡ Corrupt))
+  from_row : {s : Step} → RunsOn p v e s → Corrupting s → Corrupting p.step ⊎ (Looking p.step × (room_here p.own p.counter v ≡ Corrupt))
   from_row (too_many l h) sets = inr (l, h)
   from_row (shut-set s) raises-ne = inl (rw s sets)
   from_row (shut-raised-ne s) wakes-ne = inl (rw s raises-ne)
@@ -53,16 +53,16 @@ module _ (p : Party) (v e : ℕ) where
   not-resting : Corrupting Rest → ⊥
   not-resting = elim [ ]
 
-  by_move : (m : Move) → move_of p v e ≡ m → Corrupting (stepAfter m p.step) → Corrupting p.step ⊎ (Looking p.step × (roomHere p.own p.counter v ≡ Corrupt))
+  by_move : (m : Move) → move_of p v e ≡ m → Corrupting (step_after m p.step) → Corrupting p.step ⊎ (Looking p.step × (room_here p.own p.counter v ≡ Corrupt))
   by_move Still q c = inl c
   by_move (End a) q c = absurd (not-resting c)
   by_move (To s) q c =
       let row = runs-first (subst (λ (a : Answer). EndsWith p v e a) (ap answer_of q) (ends-first p v e)) in
-      let same : row.0 ≡ s = ap (λ (m : Move). stepAfter m p.step) (sym (runs_to p v e row.1) ∙ q) in
+      let same : row.0 ≡ s = ap (λ (m : Move). step_after m p.step) (sym (runs_to p v e row.1) ∙ q) in
       from_row row.1 (rw same c)
 
 -- more than there are slots
-above : (used capacity limit : ℕ) → roomWith used capacity limit ≡ Corrupt → capacity < used
+above : (used capacity limit : ℕ) → room_with used capacity limit ≡ Corrupt → capacity < used
 above used capacity limit e = by (ltb capacity used) refl (eqb used limit) e
   where
     by : (b : Bool) → ltb capacity used ≡ b → (c : Bool) → pick b Corrupt (pick c Blocked Free) ≡ Corrupt → capacity < used
@@ -71,8 +71,8 @@ above used capacity limit e = by (ltb capacity used) refl (eqb used limit) e
     by false q false e = absurd (let z : ◌≡◌ {A = ℕ} 0 1 = cc in omega arith)
 
 -- a look loads the other side's counter
-loads : (r : List ℕ) (p : Party) (s : Step) → p.step ≡ s → Looking s → value_of r p.own (nextSpec p) ≡ leAt 8 r (counterAt (other p.own.side))
-unfolding value_of nextSpec
+loads : (r : List ℕ) (p : Party) (s : Step) → p.step ≡ s → Looking s → value_of r p.own (next_spec p) ≡ le_at 8 r (counter_at (other p.own.side))
+unfolding value_of next_spec
 loads r p Look q looks = rw q
 loads r p (Spin n) q looks_on = rw q
 loads r p (Again n) q looks-again = rw q
@@ -80,20 +80,20 @@ loads r p (LastLook b) q looks-last = rw q
 
 module _ (side : Side) (r : List ℕ) (p : Party) (i o : List ℕ) (f : Fault) where
   abbrev value : ℕ
-  value = value_of r p.own (nextSpec p)
+  value = value_of r p.own (next_spec p)
 
   abbrev Cause : Type 0
-  Cause = Corrupting p.step ⊎ (Looking p.step × (capacity p.own.power < used p.own.side p.counter (leAt 8 r (counterAt (other p.own.side)))))
+  Cause = Corrupting p.step ⊎ (Looking p.step × (capacity p.own.power < used p.own.side p.counter (le_at 8 r (counter_at (other p.own.side)))))
 
-  found : Corrupting p.step ⊎ (Looking p.step × (roomHere p.own p.counter value ≡ Corrupt)) → Cause
-  unfolding roomOf
+  found : Corrupting p.step ⊎ (Looking p.step × (room_here p.own p.counter value ≡ Corrupt)) → Cause
+  unfolding room_of
   found (inl h) = inl h
-  found (inr (l, h)) = inr (l, above _ _ _ (subst (λ (x : ℕ). roomHere p.own p.counter x ≡ Corrupt) (loads r p p.step refl l) h))
+  found (inr (l, h)) = inr (l, above _ _ _ (subst (λ (x : ℕ). room_here p.own p.counter x ≡ Corrupt) (loads r p p.step refl l) h))
 
-  cause : (b : Bool) → taken side r p i o f ≡ b → Corrupting (turnSpec side r p i o f).party.step → Cause
-  unfolding made turnSpec
+  cause : (b : Bool) → taken side r p i o f ≡ b → Corrupting (turn_spec side r p i o f).party.step → Cause
+  unfolding made turn_spec
   cause true g c =
-      found (by_move p value (errorOf f) (move_of p value (errorOf f)) refl (subst Corrupting (ap (λ (q : Party). q.step) (party-is side r p i o f g)) c))
+      found (by_move p value (error_of f) (move_of p value (error_of f)) refl (subst Corrupting (ap (λ (q : Party). q.step) (party-is side r p i o f g)) c))
   cause false g c = inl (rw g at c)
 
 pub corrupt-seen : CorruptSeen

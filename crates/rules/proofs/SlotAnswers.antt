@@ -19,15 +19,15 @@ use Rattle.types.specs.declared.Fit.TheVariants.{Bad, Small, Fits}
 use Rattle.types.specs.declared.Step.TheVariants.{Copy}
 use Rattle.types.specs.declared.Access.{Access}
 use Rattle.types.specs.declared.Access.TheVariants.{ReadSlot}
-use Rattle.layout.specs.Limits.{payloadCapacity}
+use Rattle.layout.specs.Limits.{payload_capacity}
 use Rattle.layout.specs.Slots.{head_of}
 use Rattle.layout.proofs.SlotLaws.{head-fields}
-use Rattle.rules.specs.Looks.{fitOf}
-use Rattle.rules.specs.Steps.{fitMove}
-use Rattle.rules.specs.Take.{stepAfter, answer_of, move_of, takeSpec}
-use Rattle.rules.specs.Next.{slotAccess, nextSpec}
+use Rattle.rules.specs.Looks.{fit_of}
+use Rattle.rules.specs.Steps.{fit_move}
+use Rattle.rules.specs.Take.{step_after, answer_of, move_of, take_spec}
+use Rattle.rules.specs.Next.{slot_access, next_spec}
 use Rattle.rules.specs.Access.{place_of, slot_of, value_of}
-use Rattle.rules.specs.Turn.{errorOf, taken, actSpec}
+use Rattle.rules.specs.Turn.{error_of, taken, act_spec}
 use Rattle.rules.specs.SlotAnswers.{word, Answers, AnswersBySlot}
 use Rattle.rules.proofs.FitLaws.{fit-bad, fit_small, fit_is, copy-by}
 use Rattle.rules.proofs.Leaving.{turn_is, next-is}
@@ -42,13 +42,13 @@ part_bytes r i n h k = by (dec_lt k n)
         rw (get_or-eq_default (part r i n) 0 m) (omega arith)
 
 -- where a pop's copy leads
-pop-move : (p : Party) (v e : ℕ) → p.own.side ≡ Recorder → p.step ≡ Copy → move_of p v e ≡ fitMove (fitOf (head_of v) (payloadCapacity p.own.slot) p.length) (head_of v).length (head_of v).tag
+pop-move : (p : Party) (v e : ℕ) → p.own.side ≡ Recorder → p.step ≡ Copy → move_of p v e ≡ fit_move (fit_of (head_of v) (payload_capacity p.own.slot) p.length) (head_of v).length (head_of v).tag
 unfolding move_of
 pop-move p v e q s = rw s (copy-by p.own p.length v Recorder q)
 
 module _ (side : Side) (r : List ℕ) (p : Party) (i o : List ℕ) (f : Fault) (bytes : (k : ℕ) → get_or r k 0 < 256) (g : taken side r p i o f ≡ true) (q : p.own.side ≡ Recorder) (s : p.step ≡ Copy) where
   abbrev value : ℕ
-  value = value_of r p.own (nextSpec p)
+  value = value_of r p.own (next_spec p)
 
   abbrev header : SlotHead
   header = record { length = word r p 0; tag = word r p 2; flags = word r p 4; zero = word r p 6 }
@@ -56,21 +56,21 @@ module _ (side : Side) (r : List ℕ) (p : Party) (i o : List ℕ) (f : Fault) (
   header_is : head_of value ≡ header
   unfolding value_of
   header_is =
-      let n : nextSpec p ≡ ReadSlot p.counter = next-is side r p i o f g Copy s ∙ ap (λ (x : Side). slotAccess x p.counter) q in
+      let n : next_spec p ≡ ReadSlot p.counter = next-is side r p i o f g Copy s ∙ ap (λ (x : Side). slot_access x p.counter) q in
       ap (λ (a : Access). head_of (value_of r p.own a)) n ∙ head-fields (slot_of r p.own p.counter) (part_bytes r (place_of p.own p.counter) p.own.slot bytes)
 
   -- answer and step, by how the note fits
-  told : (t : Fit) → fitOf header (payloadCapacity p.own.slot) p.length ≡ t
-      → Answers side r p i o f (answer_of (fitMove t header.length header.tag)) (stepAfter (fitMove t header.length header.tag) Copy)
-  unfolding actSpec takeSpec
+  told : (t : Fit) → fit_of header (payload_capacity p.own.slot) p.length ≡ t
+      → Answers side r p i o f (answer_of (fit_move t header.length header.tag)) (step_after (fit_move t header.length header.tag) Copy)
+  unfolding act_spec take_spec
   told t h =
-      let m : move_of p value (errorOf f) ≡ fitMove t header.length header.tag = pop-move p value (errorOf f) q s ∙ rw (header_is, h) in
+      let m : move_of p value (error_of f) ≡ fit_move t header.length header.tag = pop-move p value (error_of f) q s ∙ rw (header_is, h) in
       (ap (λ (x : Turned). x.answer) (turn_is side r p i o f g) ∙ ap answer_of m, ap (λ (x : Turned). x.party.step) (turn_is side r p i o f g) ∙ rw (m, s))
 
 pub by-slot : (side : Side) (r : List ℕ) (p : Party) (i o : List ℕ) (f : Fault) → AnswersBySlot side r p i o f
 by-slot side r p i o f bytes g q s =
     let w : SlotHead = header side r p i o f bytes g q s in
-    let most : ℕ = payloadCapacity p.own.slot in
+    let most : ℕ = payload_capacity p.own.slot in
     let say = told side r p i o f bytes g q s in
     record {
       bad = λ b. say Bad (fit-bad w most p.length b);

@@ -4,7 +4,7 @@ use mathlib.Core.Bool.{Bool, true, false}
 use mathlib.Core.List.{List}
 use Prim.Native.Nat.{ℕ, suc, ◌+◌}
 use native.Mathlib.Omega.{arith}
-use Rattle.words.specs.Le.{leAt}
+use Rattle.words.specs.Le.{le_at}
 use Rattle.types.specs.Pick.{pick}
 use Rattle.types.specs.declared.Side.{Side}
 use Rattle.types.specs.declared.Mark.TheVariants.{Shutdown as ShutMark}
@@ -12,18 +12,18 @@ use Rattle.types.specs.declared.Fault.TheVariants.{Fine}
 use Rattle.types.specs.declared.Door.{Door}
 use Rattle.types.specs.declared.Step.{Step}
 use Rattle.types.specs.declared.Step.TheVariants.{Rest}
-use Rattle.layout.specs.Limits.{powerOk, slotOk}
-use Rattle.layout.specs.Flags.{worth, bitOn}
-use Rattle.layout.specs.Header.{flagsAt}
+use Rattle.layout.specs.Limits.{power_ok, slot_ok}
+use Rattle.layout.specs.Flags.{worth, bit_on}
+use Rattle.layout.specs.Header.{flags_at}
 use Rattle.layout.specs.Create.{created}
-use Rattle.rules.specs.Looks.{doorOf}
-use Rattle.rules.specs.Take.{stanceOf}
-use Rattle.rules.specs.Run.{World, partyIn, takes, run, opened}
+use Rattle.rules.specs.Looks.{door_of}
+use Rattle.rules.specs.Take.{stance_of}
+use Rattle.rules.specs.Run.{World, party_in, takes, run, opened}
 use Rattle.rules.specs.Stretch.{moves}
-use Rattle.rules.specs.Claims.{lastLooks, Fresh, reached, StopsAfter}
+use Rattle.rules.specs.Claims.{last_looks, Fresh, reached, StopsAfter}
 use Rattle.rules.proofs.Views.{moves-else}
 use Rattle.rules.proofs.Leads.{barred, stop-barred, last_at}
-use Rattle.rules.proofs.Taken.{turnWorld}
+use Rattle.rules.proofs.Taken.{turn_world}
 use Rattle.rules.proofs.RealTurn.{next-step, leads-here, after_turn, turn-is-after, real-after}
 use Rattle.rules.proofs.RealRun.{power-fits, slot-fits, real-reached}
 use Rattle.rules.proofs.Effects.{sets-none}
@@ -32,28 +32,28 @@ use Rattle.rules.proofs.Listening.{mover-is, flags-same}
 use Rattle.rules.proofs.Causes.{room-is}
 use Rattle.rules.proofs.Bound.{none_after}
 use Rattle.rules.proofs.Asks.{run-parts}
-use Rattle.rules.proofs.Nearer.{toRest, near, stopping, nears}
+use Rattle.rules.proofs.Nearer.{to_rest, near, stopping, nears}
 use Rattle.rules.proofs.Stopping.{one_more, looks-most, last-is}
 use Rattle.rules.proofs.Exactly.{exactly}
-use Rattle.rules.proofs.Real.{roomIn, Real}
+use Rattle.rules.proofs.Real.{room_in, Real}
 
-module _ (P S v : ℕ) (on : Bool) (power-ok : powerOk P ≡ true) (Slot-ok : slotOk S ≡ true) where
+module _ (P S v : ℕ) (on : Bool) (power-ok : power_ok P ≡ true) (Slot-ok : slot_ok S ≡ true) where
   -- no room, a flag up, between a spin and the end, so many turns left
   record Stopping (side : Side) (door : Door) (n : ℕ) (w : World) : Type 0 where
     real : Real P S v on w
-    room : roomIn P S v on side w.trace ≡ 0
-    seen : doorOf side (leAt 4 w.region flagsAt) ≡ door
-    at : stopping (partyIn w side).step ≡ true
-    left : toRest (last_at side door) 0 (partyIn w side).step 0 ≡ n
+    room : room_in P S v on side w.trace ≡ 0
+    seen : door_of side (le_at 4 w.region flags_at) ≡ door
+    at : stopping (party_in w side).step ≡ true
+    left : to_rest (last_at side door) 0 (party_in w side).step 0 ≡ n
 
   module _ (side : Side) (door : Door) (up : barred door ≡ true) where
-    rested : (w : World) → Stopping side door 0 w → (partyIn w side).step ≡ Rest
-    rested w d = (near (last_at side door) 0 (omega (arith, looks-most side door, one_more side)) (partyIn w side).step 0).rested (omega (arith, d.left))
+    rested : (w : World) → Stopping side door 0 w → (party_in w side).step ≡ Rest
+    rested w d = (near (last_at side door) 0 (omega (arith, looks-most side door, one_more side)) (party_in w side).step 0).rested (omega (arith, d.left))
 
-    moving : (n : ℕ) (w : World) → Stopping side door (suc n) w → moves (stanceOf (partyIn w side).step) ≡ true
+    moving : (n : ℕ) (w : World) → Stopping side door (suc n) w → moves (stance_of (party_in w side).step) ≡ true
     moving n w d =
-        moves-else (partyIn w side).step
-        (λ e. let u : 0 ≡ suc n = sym (ap (λ (x : Step). toRest (last_at side door) 0 x 0) e) ∙ d.left in omega arith)
+        moves-else (party_in w side).step
+        (λ e. let u : 0 ≡ suc n = sym (ap (λ (x : Step). to_rest (last_at side door) 0 x 0) e) ∙ d.left in omega arith)
         (λ e. let u : true ≡ false = sym d.at ∙ ap stopping e in let z : ◌≡◌ {A = ℕ} 0 1 = cc in omega arith)
 
     module _ (n : ℕ) (w : World) (d : Stopping side door (suc n) w) (payload lent : List ℕ) (g : takes w side payload lent Fine ≡ true) where
@@ -63,10 +63,10 @@ module _ (P S v : ℕ) (on : Bool) (power-ok : powerOk P ≡ true) (Slot-ok : sl
       abbrev after : World
       after = after_turn P S v on power-ok Slot-ok w d.real side payload lent Fine g
 
-      nearer-here : (stopping next ≡ true) × (toRest (last_at side door) 0 next 0 ≡ less (toRest (last_at side door) 0 (partyIn w side).step 0))
+      nearer-here : (stopping next ≡ true) × (to_rest (last_at side door) 0 next 0 ≡ less (to_rest (last_at side door) 0 (party_in w side).step 0))
       nearer-here =
-          subst (λ (z : Door). (stopping next ≡ true) × (toRest (last_at side z) 0 next 0 ≡ less (toRest (last_at side z) 0 (partyIn w side).step 0))) d.seen
-          (nears _ d.room (ap barred d.seen ∙ up) (partyIn w side).step next (leads-here P S v on power-ok Slot-ok w d.real side payload lent Fine g) d.at)
+          subst (λ (z : Door). (stopping next ≡ true) × (to_rest (last_at side z) 0 next 0 ≡ less (to_rest (last_at side z) 0 (party_in w side).step 0))) d.seen
+          (nears _ d.room (ap barred d.seen ∙ up) (party_in w side).step next (leads-here P S v on power-ok Slot-ok w d.real side payload lent Fine g) d.at)
 
       stopping-after : Stopping side door n after
       stopping-after =
@@ -74,25 +74,25 @@ module _ (P S v : ℕ) (on : Bool) (power-ok : powerOk P ≡ true) (Slot-ok : sl
           record {
             real = real-after P S v on power-ok Slot-ok w d.real side payload lent Fine g;
             room = none_after P S v on power-ok Slot-ok w d.real side payload lent Fine g d.room;
-            seen = ap (doorOf side) (flags-same P S v on power-ok Slot-ok w d.real side payload lent Fine g (sets-none stopping refl (λ c. refl) (partyIn w side).step d.at)) ∙ d.seen;
+            seen = ap (door_of side) (flags-same P S v on power-ok Slot-ok w d.real side payload lent Fine g (sets-none stopping refl (λ c. refl) (party_in w side).step d.at)) ∙ d.seen;
             at = rw me nearer-here.0;
             left = rw me (nearer-here.1 ∙ ap less d.left);
           }
 
-      turn : Stopping side door n (turnWorld w side payload lent Fine)
+      turn : Stopping side door n (turn_world w side payload lent Fine)
       turn = subst (Stopping side door n) (sym (turn-is-after P S v on power-ok Slot-ok w d.real side payload lent Fine g)) stopping-after
 
 module _ (r : List ℕ) (P S : ℕ) (on : Bool) (v : ℕ) (fresh : Fresh r P S on v) where
   pub stops-after : (side : Side) → StopsAfter r P S on v side
   stops-after side hs ms n t up none at turns long =
       let w = reached r P S on v hs in
-      let flags = leAt 4 w.region flagsAt in
+      let flags = le_at 4 w.region flags_at in
       let power-ok = power-fits r P S on v fresh in
       let Slot-ok = slot-fits r P S on v fresh in
-      let door = doorOf side flags in
+      let door = door_of side flags in
       let last = last-is side flags up in
-      let start : Stopping P S v on power-ok Slot-ok side door (n + 4 + pick (bitOn (worth ShutMark) flags) 0 (lastLooks side)) w =
-      record { real = real-reached r P S on v fresh hs t; room = sym (room-is r P S on v fresh side hs t) ∙ none; seen = refl; at = ap stopping at; left = ap (λ (s : Step). toRest (last_at side door) 0 s 0) at ∙ ap (λ (l : ℕ). n + 4 + l) last } in
+      let start : Stopping P S v on power-ok Slot-ok side door (n + 4 + pick (bit_on (worth ShutMark) flags) 0 (last_looks side)) w =
+      record { real = real-reached r P S on v fresh hs t; room = sym (room-is r P S on v fresh side hs t) ∙ none; seen = refl; at = ap stopping at; left = ap (λ (s : Step). to_rest (last_at side door) 0 s 0) at ∙ ap (λ (l : ℕ). n + 4 + l) last } in
       let barred-here = stop-barred side flags ∙ up in
       let done = exactly side (Stopping P S v on power-ok Slot-ok side door) (moving P S v on power-ok Slot-ok side door barred-here) (turn P S v on power-ok Slot-ok side door barred-here) ms w turns _ start long in
-      (done.0, (done.1.0, (done.1.1.0, (done.1.1.1.0, subst (λ (u : World). (partyIn u side).step ≡ Rest) (sym (run-parts hs done.0 (opened (created r P S on v)))) (rested P S v on power-ok Slot-ok side door barred-here (run done.0 w) done.1.1.1.1)))))
+      (done.0, (done.1.0, (done.1.1.0, (done.1.1.1.0, subst (λ (u : World). (party_in u side).step ≡ Rest) (sym (run-parts hs done.0 (opened (created r P S on v)))) (rested P S v on power-ok Slot-ok side door barred-here (run done.0 w) done.1.1.1.1)))))

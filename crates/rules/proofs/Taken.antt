@@ -13,56 +13,56 @@ use Rattle.types.specs.declared.Fault.{Fault}
 use Rattle.types.specs.declared.Turned.{Turned}
 use Rattle.types.specs.declared.Bench.{Bench}
 use Rattle.types.specs.declared.Woke.TheVariants.{Nobody}
-use Rattle.layout.specs.Limits.{powerOk, slotOk, spinsOk, totalBytes}
-use Rattle.rules.specs.Sides.{other, sameSide}
-use Rattle.rules.specs.Take.{stanceOf, stepAfter, move_of}
-use Rattle.rules.specs.Next.{nextSpec}
-use Rattle.rules.specs.Calls.{sound, lengthOk}
-use Rattle.rules.specs.Access.{value_of, leavesOf, bufferOf}
-use Rattle.rules.specs.Turn.{errorOf, faultOk, lentTo, lentOk, goes, wokeOf, actSpec, actLeaves, actBuffer, turnSpec, turnLeaves}
-use Rattle.rules.specs.Bench.{partyOf, seat, wakened, turned}
-use Rattle.rules.specs.Run.{World, partyIn, takes, traced, turnTraced}
+use Rattle.layout.specs.Limits.{power_ok, slot_ok, spins_ok, total_bytes}
+use Rattle.rules.specs.Sides.{other, same_side}
+use Rattle.rules.specs.Take.{stance_of, step_after, move_of}
+use Rattle.rules.specs.Next.{next_spec}
+use Rattle.rules.specs.Calls.{sound, length_ok}
+use Rattle.rules.specs.Access.{value_of, leaves_of, buffer_of}
+use Rattle.rules.specs.Turn.{error_of, fault_ok, lent_to, lent_ok, goes, woke_of, act_spec, act_leaves, act_buffer, turn_spec, turn_leaves}
+use Rattle.rules.specs.Bench.{party_of, seat, wakened, turned}
+use Rattle.rules.specs.Run.{World, party_in, takes, traced, turn_traced}
 use Rattle.rules.proofs.Leaving.{made, turn_is, leaves-is, party-is}
 use Rattle.rules.proofs.Seats.{moved}
 
 -- what a turn of a side makes of a world
-abbrev pub turnWorld : World → Side → (payload lent : List ℕ) → Fault → World
-turnWorld w side payload lent fault =
+abbrev pub turn_world : World → Side → (payload lent : List ℕ) → Fault → World
+turn_world w side payload lent fault =
     record {
-      region = turnLeaves side w.region (partyIn w side) payload lent fault;
-      bench = (turned w.bench side (turnSpec side w.region (partyIn w side) payload lent fault)).bench;
-      trace = turnTraced w side payload lent fault;
+      region = turn_leaves side w.region (party_in w side) payload lent fault;
+      bench = (turned w.bench side (turn_spec side w.region (party_in w side) payload lent fault)).bench;
+      trace = turn_traced w side payload lent fault;
     }
 
-pub reseated : (side : Side) (b : Bench) → seat (seat b side (partyOf b side)) (other side) (wakened (other side) (partyOf b (other side)) Nobody) ≡ b
+pub reseated : (side : Side) (b : Bench) → seat (seat b side (party_of b side)) (other side) (wakened (other side) (party_of b (other side)) Nobody) ≡ b
 unfolding wakened
 reseated Sender b = refl
 reseated Recorder b = refl
 
-pub seat-own : (side : Side) (b : Bench) (p q : Party) → partyOf (seat (seat b side p) (other side) q) side ≡ p
+pub seat-own : (side : Side) (b : Bench) (p q : Party) → party_of (seat (seat b side p) (other side) q) side ≡ p
 seat-own Sender b p q = refl
 seat-own Recorder b p q = refl
 
-pub seat-other : (side : Side) (b : Bench) (p q : Party) → partyOf (seat (seat b side p) (other side) q) (other side) ≡ q
+pub seat-other : (side : Side) (b : Bench) (p q : Party) → party_of (seat (seat b side p) (other side) q) (other side) ≡ q
 seat-other Sender b p q = refl
 seat-other Recorder b p q = refl
 
 module _ (w : World) (side : Side) (payload lent : List ℕ) (fault : Fault) where
   abbrev p : Party
-  p = partyIn w side
+  p = party_in w side
 
   -- a refused turn leaves the world as it was
-  pub turn-refused : takes w side payload lent fault ≡ false → turnWorld w side payload lent fault ≡ w
-  unfolding turnLeaves turned turnSpec
+  pub turn-refused : takes w side payload lent fault ≡ false → turn_world w side payload lent fault ≡ w
+  unfolding turn_leaves turned turn_spec
   turn-refused g = λ i. record { region = a i; bench = b i; trace = c i }
     where
-      a : turnLeaves side w.region p payload lent fault ≡ w.region
+      a : turn_leaves side w.region p payload lent fault ≡ w.region
       a = rw g
 
-      b : (turned w.bench side (turnSpec side w.region p payload lent fault)).bench ≡ w.bench
+      b : (turned w.bench side (turn_spec side w.region p payload lent fault)).bench ≡ w.bench
       b = rw g (reseated side w.bench)
 
-      c : turnTraced w side payload lent fault ≡ w.trace
+      c : turn_traced w side payload lent fault ≡ w.trace
       c = rw g
 
   module _ (g : takes w side payload lent fault ≡ true) where
@@ -77,39 +77,39 @@ module _ (w : World) (side : Side) (payload lent : List ℕ) (fault : Fault) whe
     unfolding sound
     attached-here = and_left p.own.attached _ is-sound
 
-    pub length-ok : lengthOk side p.length p.own.slot ≡ true
+    pub length-ok : length_ok side p.length p.own.slot ≡ true
     unfolding sound
     length-ok =
-        and_right (spinsOk p.own.spins) _
-        (and_right (slotOk p.own.slot) _ (and_right (powerOk p.own.power) _ (and_right (sameSide side p.own.side) _ (and_right p.own.attached _ is-sound))))
+        and_right (spins_ok p.own.spins) _
+        (and_right (slot_ok p.own.slot) _ (and_right (power_ok p.own.power) _ (and_right (same_side side p.own.side) _ (and_right p.own.attached _ is-sound))))
 
-    pub lent_ok : lentOk (stanceOf p.step) (lentTo side (length payload) (length lent)) p.length ≡ true
+    pub lent_ok : lent_ok (stance_of p.step) (lent_to side (length payload) (length lent)) p.length ≡ true
     unfolding goes
-    lent_ok = and_left _ (faultOk fault) (and_right (eqb (length w.region) (totalBytes p.own.power p.own.slot)) _ (and_right (sound side p) _ tests))
+    lent_ok = and_left _ (fault_ok fault) (and_right (eqb (length w.region) (total_bytes p.own.power p.own.slot)) _ (and_right (sound side p) _ tests))
 
     -- the party after it, and the world
     abbrev value : ℕ
-    value = value_of w.region p.own (nextSpec p)
+    value = value_of w.region p.own (next_spec p)
 
     abbrev woken : Party
-    woken = wakened (other side) (partyIn w (other side)) (wokeOf (nextSpec p) (errorOf fault))
+    woken = wakened (other side) (party_in w (other side)) (woke_of (next_spec p) (error_of fault))
 
-    pub turn-taken : turnWorld w side payload lent fault ≡ record {
-      region = leavesOf w.region p.own (nextSpec p) p.tag payload;
-      bench = seat (seat w.bench side (moved p p.step (stepAfter (move_of p value (errorOf fault)) p.step))) (other side) woken;
-      trace = traced (nextSpec p) p payload (bufferOf w.region p.own (nextSpec p) p.length lent) w.trace;
+    pub turn-taken : turn_world w side payload lent fault ≡ record {
+      region = leaves_of w.region p.own (next_spec p) p.tag payload;
+      bench = seat (seat w.bench side (moved p p.step (step_after (move_of p value (error_of fault)) p.step))) (other side) woken;
+      trace = traced (next_spec p) p payload (buffer_of w.region p.own (next_spec p) p.length lent) w.trace;
     }
-    unfolding made actLeaves actBuffer actSpec turned
+    unfolding made act_leaves act_buffer act_spec turned
     turn-taken = λ i. record { region = a i; bench = b i; trace = c i }
       where
-        a : turnLeaves side w.region p payload lent fault ≡ leavesOf w.region p.own (nextSpec p) p.tag payload
+        a : turn_leaves side w.region p payload lent fault ≡ leaves_of w.region p.own (next_spec p) p.tag payload
         a = leaves-is side w.region p payload lent fault g
 
-        b : (turned w.bench side (turnSpec side w.region p payload lent fault)).bench
-            ≡ seat (seat w.bench side (moved p p.step (stepAfter (move_of p value (errorOf fault)) p.step))) (other side) woken
+        b : (turned w.bench side (turn_spec side w.region p payload lent fault)).bench
+            ≡ seat (seat w.bench side (moved p p.step (step_after (move_of p value (error_of fault)) p.step))) (other side) woken
         b =
             ap (λ (t : Turned). (turned w.bench side t).bench) (turn_is side w.region p payload lent fault g)
             ∙ ap (λ (q : Party). seat (seat w.bench side q) (other side) woken) (sym (ap (λ (t : Turned). t.party) (turn_is side w.region p payload lent fault g)) ∙ party-is side w.region p payload lent fault g)
 
-        c : turnTraced w side payload lent fault ≡ traced (nextSpec p) p payload (bufferOf w.region p.own (nextSpec p) p.length lent) w.trace
+        c : turn_traced w side payload lent fault ≡ traced (next_spec p) p payload (buffer_of w.region p.own (next_spec p) p.length lent) w.trace
         c = rw g

@@ -20,28 +20,28 @@ use Rattle.types.specs.declared.Event.TheVariants.{Turn, Failing, Spurious, Time
 use Rattle.types.specs.declared.Answer.TheVariants.{GoesOn, Timeout}
 use Rattle.types.specs.declared.Step.{Step}
 use Rattle.types.specs.declared.Step.TheVariants.{Rest, Look, Copy, Publish, Check, Raise, Wake, Gate, Spin, Epoch, Again, GateAgain, Wait, Asleep, LastLook, CloseSet, CloseRaise, CloseWake, ShutSet, ShutRaiseNe, ShutWakeNe, ShutRaiseNf, ShutWakeNf}
-use Rattle.layout.specs.Limits.{powerOk, slotOk, payloadCapacity}
-use Rattle.layout.specs.Attach.{attachAnswer, attachReply, attached}
+use Rattle.layout.specs.Limits.{power_ok, slot_ok, payload_capacity}
+use Rattle.layout.specs.Attach.{attach_answer, attach_reply, attached}
 use Rattle.layout.specs.Create.{created}
-use Rattle.rules.specs.Sides.{other, sameSide}
-use Rattle.rules.specs.Looks.{napOf}
-use Rattle.rules.specs.Steps.{napMove, waitMove}
-use Rattle.rules.specs.Take.{stanceOf, stepAfter, move_at, move_of}
-use Rattle.rules.specs.Next.{nextSpec}
+use Rattle.rules.specs.Sides.{other, same_side}
+use Rattle.rules.specs.Looks.{nap_of}
+use Rattle.rules.specs.Steps.{nap_move, wait_move}
+use Rattle.rules.specs.Take.{stance_of, step_after, move_at, move_of}
+use Rattle.rules.specs.Next.{next_spec}
 use Rattle.rules.specs.Access.{value_of}
-use Rattle.rules.specs.Calls.{isSleeping, sound, ready, reply, at, named, begins, rouses, pushSpec, popSpec, closeSpec, shutSpec, spuriousSpec, timeoutSpec}
-use Rattle.rules.specs.Turn.{errorOf, wokeOf}
-use Rattle.rules.specs.Bench.{partyOf, seat, settled, played, playedLeaves}
+use Rattle.rules.specs.Calls.{is_sleeping, sound, ready, reply, at, named, begins, rouses, push_spec, pop_spec, close_spec, shut_spec, spurious_spec, timeout_spec}
+use Rattle.rules.specs.Turn.{error_of, woke_of}
+use Rattle.rules.specs.Bench.{party_of, seat, settled, played, played_leaves}
 use Rattle.rules.specs.Given.{timed-out, turn, Given, turn-taken}
-use Rattle.rules.specs.Run.{World, Happening, attaches, plays, partyIn, takes, happens, run, opened}
+use Rattle.rules.specs.Run.{World, Happening, attaches, plays, party_in, takes, happens, run, opened}
 use Rattle.rules.specs.Phase.{phase}
 use Rattle.rules.specs.Premises.{AllTyped}
 use Rattle.rules.specs.Claims.{Fresh, reached}
-use Rattle.rules.specs.Asked.{begun, atWait, timedAfter, timedBy}
+use Rattle.rules.specs.Asked.{begun, at_wait, timed_after, timed_by}
 use Rattle.rules.specs.Meaning.{TimedByCall}
 use Rattle.rules.proofs.Leads.{last_at, Sight, Onward, straight, around, Leads, idles, finds, blocks, gives_up, copies, spills, tells, stores, owes, passes, raises, wakes, enters, stops, finds-spin, spins, reads, finds-again, stays, enters-again, stops-again, sleeps as falls-asleep, returns, ends, dreams, glances, glances-again, times-out, finds-last, finds-none, closes, closes-alone, close-raises, close-wakes, shuts, shut-raises, shut-wakes, shut-raises-again, shut-wakes-again}
 use Rattle.rules.proofs.Seats.{roused, roused-elim}
-use Rattle.rules.proofs.Taken.{turnWorld, turn-refused}
+use Rattle.rules.proofs.Taken.{turn_world, turn-refused}
 use Rattle.rules.proofs.RealTurn.{next-step, leads-here, after_turn, turn-is-after}
 use Rattle.rules.proofs.RealRun.{power-fits, slot-fits, real-start, real-happens}
 use Rattle.rules.proofs.Listening.{mover-is, waiter-is}
@@ -151,14 +151,14 @@ glance-on side g m b s n t shut-raises-again = tt
 glance-on side g m b s n t shut-wakes-again = tt
 
 -- a wait leads to the last look by error 110 alone
-nap-timed : (n : Nap) (op f e : ℕ) → stepAfter (napMove n op f) (Wait e) ≡ LastLook true → n ≡ TimedOut
+nap-timed : (n : Nap) (op f e : ℕ) → step_after (nap_move n op f) (Wait e) ≡ LastLook true → n ≡ TimedOut
 nap-timed Sleeps op f e h = absurd (let z : ◌≡◌ {A = ℕ} 0 1 = cc in omega arith)
 nap-timed Returns op f e h = absurd (let z : ◌≡◌ {A = ℕ} 0 1 = cc in omega arith)
 nap-timed TimedOut op f e h = refl
 nap-timed Fails op f e h = absurd (let z : ◌≡◌ {A = ℕ} 0 1 = cc in omega arith)
 
-timed-error : (f : ℕ) (same : Bool) → napOf f same ≡ TimedOut → eqb f 110 ≡ true
-unfolding napOf
+timed-error : (f : ℕ) (same : Bool) → nap_of f same ≡ TimedOut → eqb f 110 ≡ true
+unfolding nap_of
 timed-error f same e = by (eqb f 0) same (eqb f 4 || eqb f 11) (eqb f 110) e
   where
     by : (a s c d : Bool) → pick a (pick s Sleeps Returns) (pick c Returns (pick d TimedOut Fails)) ≡ TimedOut → d ≡ true
@@ -169,9 +169,9 @@ timed-error f same e = by (eqb f 0) same (eqb f 4 || eqb f 11) (eqb f 110) e
     by false s false false e = absurd (let q : ◌≡◌ {A = ℕ} 0 1 = cc in omega arith)
 
 abbrev In : Side → Bool → World → Type 0
-In side b w = Glance side b (partyIn w side).step
+In side b w = Glance side b (party_in w side).step
 
-same_true : (side : Side) → sameSide side side ≡ true
+same_true : (side : Side) → same_side side side ≡ true
 same_true Sender = refl
 same_true Recorder = refl
 
@@ -199,80 +199,80 @@ rouses-glance F p false a q h f = h
 rouses-glance F p true false q h f = h
 rouses-glance F p true true q h f = f refl
 
-module _ (P S v : ℕ) (on : Bool) (power-ok : powerOk P ≡ true) (Slot-ok : slotOk S ≡ true) where
+module _ (P S v : ℕ) (on : Bool) (power-ok : power_ok P ≡ true) (Slot-ok : slot_ok S ≡ true) where
   mine-after : (w : World) (real : Real P S v on w) (side : Side) (payload lent : List ℕ) (fault : Fault) (g : takes w side payload lent fault ≡ true) (b : Bool)
-      → ((e : ℕ) → (partyIn w side).step ≡ Wait e → eqb (errorOf fault) 110 ≡ true → b ≡ true) → In side b (after_turn P S v on power-ok Slot-ok w real side payload lent fault g)
-  unfolding move_of waitMove
+      → ((e : ℕ) → (party_in w side).step ≡ Wait e → eqb (error_of fault) 110 ≡ true → b ≡ true) → In side b (after_turn P S v on power-ok Slot-ok w real side payload lent fault g)
+  unfolding move_of wait_move
   mine-after w real side payload lent fault g b h =
-      let p = partyIn w side in
-      let value = value_of w.region p.own (nextSpec p) in
+      let p = party_in w side in
+      let value = value_of w.region p.own (next_spec p) in
       rw (mover-is P S v on power-ok Slot-ok w real side payload lent fault g)
       (glance-on side _ refl b p.step (next-step P S v on power-ok Slot-ok w real side payload lent fault g)
-      (λ e s n. h e s (timed-error (errorOf fault) (eqb value e) (nap-timed _ _ (errorOf fault) e (subst (λ (u : Step). stepAfter (move_at u p.own p.counter p.blocking p.length value (errorOf fault)) u ≡ LastLook true) s n))))
+      (λ e s n. h e s (timed-error (error_of fault) (eqb value e) (nap-timed _ _ (error_of fault) e (subst (λ (u : Step). step_after (move_at u p.own p.counter p.blocking p.length value (error_of fault)) u ≡ LastLook true) s n))))
       (leads-here P S v on power-ok Slot-ok w real side payload lent fault g))
 
   theirs-after : (w : World) (real : Real P S v on w) (side : Side) (payload lent : List ℕ) (fault : Fault) (g : takes w side payload lent fault ≡ true) (b : Bool)
       → In (other side) b w → In (other side) b (after_turn P S v on power-ok Slot-ok w real side payload lent fault g)
   theirs-after w real side payload lent fault g b y =
       rw (waiter-is P S v on power-ok Slot-ok w real side payload lent fault g)
-      (roused-elim (roused (other side) (partyIn w (other side)) (wokeOf (nextSpec (partyIn w side)) (errorOf fault))) (Glance (other side) b) y (λ e. tt))
+      (roused-elim (roused (other side) (party_in w (other side)) (woke_of (next_spec (party_in w side)) (error_of fault))) (Glance (other side) b) y (λ e. tt))
 
   glance-turn : (σ side : Side) (w : World) → Real P S v on w → (payload lent : List ℕ) (fault : Fault) (b d : Bool) → (b ≡ true → d ≡ true)
-      → (σ ≡ side → takes w side payload lent fault ≡ true → (e : ℕ) → (partyIn w side).step ≡ Wait e → eqb (errorOf fault) 110 ≡ true → d ≡ true)
-      → In σ b w → In σ d (turnWorld w side payload lent fault)
+      → (σ ≡ side → takes w side payload lent fault ≡ true → (e : ℕ) → (party_in w side).step ≡ Wait e → eqb (error_of fault) 110 ≡ true → d ≡ true)
+      → In σ b w → In σ d (turn_world w side payload lent fault)
   glance-turn σ side w real payload lent fault b d m h y = by (takes w side payload lent fault) refl
     where
-      taken : (σ side : Side) (g : takes w side payload lent fault ≡ true) → (σ ≡ side → takes w side payload lent fault ≡ true → (e : ℕ) → (partyIn w side).step ≡ Wait e → eqb (errorOf fault) 110 ≡ true → d ≡ true)
+      taken : (σ side : Side) (g : takes w side payload lent fault ≡ true) → (σ ≡ side → takes w side payload lent fault ≡ true → (e : ℕ) → (party_in w side).step ≡ Wait e → eqb (error_of fault) 110 ≡ true → d ≡ true)
           → In σ b w → In σ d (after_turn P S v on power-ok Slot-ok w real side payload lent fault g)
       taken Sender Sender g h y = mine-after w real Sender payload lent fault g d (h refl g)
       taken Recorder Recorder g h y = mine-after w real Recorder payload lent fault g d (h refl g)
-      taken Sender Recorder g h y = glance-more Sender b d (partyIn (after_turn P S v on power-ok Slot-ok w real Recorder payload lent fault g) Sender).step m (theirs-after w real Recorder payload lent fault g b y)
-      taken Recorder Sender g h y = glance-more Recorder b d (partyIn (after_turn P S v on power-ok Slot-ok w real Sender payload lent fault g) Recorder).step m (theirs-after w real Sender payload lent fault g b y)
+      taken Sender Recorder g h y = glance-more Sender b d (party_in (after_turn P S v on power-ok Slot-ok w real Recorder payload lent fault g) Sender).step m (theirs-after w real Recorder payload lent fault g b y)
+      taken Recorder Sender g h y = glance-more Recorder b d (party_in (after_turn P S v on power-ok Slot-ok w real Sender payload lent fault g) Recorder).step m (theirs-after w real Sender payload lent fault g b y)
 
-      by : (x : Bool) → takes w side payload lent fault ≡ x → In σ d (turnWorld w side payload lent fault)
+      by : (x : Bool) → takes w side payload lent fault ≡ x → In σ d (turn_world w side payload lent fault)
       by true g = subst (In σ d) (sym (turn-is-after P S v on power-ok Slot-ok w real side payload lent fault g)) (taken σ side g h y)
-      by false g = subst (In σ d) (sym (turn-refused w side payload lent fault g)) (glance-more σ b d (partyIn w σ).step m y)
+      by false g = subst (In σ d) (sym (turn-refused w side payload lent fault g)) (glance-more σ b d (party_in w σ).step m y)
 
   glance-attach : (σ side : Side) (n : ℕ) (w : World) (b : Bool) → In σ b w → In σ b (happens (attaches side n) w)
-  unfolding happens attachReply
-  glance-attach σ side n w b y = by (eqb (number (attachAnswer w.region side n)) 0) refl
+  unfolding happens attach_reply
+  glance-attach σ side n w b y = by (eqb (number (attach_answer w.region side n)) 0) refl
     where
-      seats : (σ side : Side) → In σ b w → Glance σ b (partyOf (seat w.bench side (attached w.region side n)) σ).step
+      seats : (σ side : Side) → In σ b w → Glance σ b (party_of (seat w.bench side (attached w.region side n)) σ).step
       seats Sender Sender y = tt
       seats Sender Recorder y = y
       seats Recorder Sender y = y
       seats Recorder Recorder y = tt
 
-      by : (x : Bool) → eqb (number (attachAnswer w.region side n)) 0 ≡ x → In σ b (happens (attaches side n) w)
+      by : (x : Bool) → eqb (number (attach_answer w.region side n)) 0 ≡ x → In σ b (happens (attaches side n) w)
       by true e = rw e (seats σ side y)
       by false e = rw e y
 
-  glance-happens : (σ : Side) (h : Happening) (w : World) → Real P S v on w → (b : Bool) → In σ b w → In σ (timedAfter σ h w b) (happens h w)
-  unfolding happens played playedLeaves settled pushSpec popSpec closeSpec shutSpec spuriousSpec timeoutSpec
+  glance-happens : (σ : Side) (h : Happening) (w : World) → Real P S v on w → (b : Bool) → In σ b w → In σ (timed_after σ h w b) (happens h w)
+  unfolding happens played played_leaves settled push_spec pop_spec close_spec shut_spec spurious_spec timeout_spec
   glance-happens σ (attaches side n) w real b y = glance-attach σ side n w b y
   glance-happens σ (plays (Turn side) i o) w real b y = glance-turn σ side w real i o Fine b b (λ e. e) (λ s g e q f. absurd (let z : ◌≡◌ {A = ℕ} 0 1 = cc in omega arith)) y
   glance-happens σ (plays (Failing side n) i o) w real b y =
-      let x = sameSide σ side && (takes w side i o (Error n) && (atWait (phase (partyIn w side).step) && eqb n 110)) in
+      let x = same_side σ side && (takes w side i o (Error n) && (at_wait (phase (party_in w side).step) && eqb n 110)) in
       glance-turn σ side w real i o (Error n) b (x || b) (or-more x b) (λ s g e q f. rw (s, same_true side, g, q, f)) y
   glance-happens Sender (plays (Spurious Sender) i o) w real b y =
-      let p = w.bench.sender in rouses-glance (Glance Sender b) p (sound Sender p) (isSleeping (stanceOf p.step)) (reply (at Look p) GoesOn) y (λ e. tt)
+      let p = w.bench.sender in rouses-glance (Glance Sender b) p (sound Sender p) (is_sleeping (stance_of p.step)) (reply (at Look p) GoesOn) y (λ e. tt)
   glance-happens Recorder (plays (Spurious Recorder) i o) w real b y =
-      let p = w.bench.recorder in rouses-glance (Glance Recorder b) p (sound Recorder p) (isSleeping (stanceOf p.step)) (reply (at Look p) GoesOn) y (λ e. tt)
+      let p = w.bench.recorder in rouses-glance (Glance Recorder b) p (sound Recorder p) (is_sleeping (stance_of p.step)) (reply (at Look p) GoesOn) y (λ e. tt)
   glance-happens Sender (plays (Spurious Recorder) i o) w real b y = y
   glance-happens Recorder (plays (Spurious Sender) i o) w real b y = y
   glance-happens Sender (plays (TimeOut Sender) i o) w real b y =
       let p = w.bench.sender in
-      let x = isSleeping (stanceOf p.step) in
+      let x = is_sleeping (stance_of p.step) in
       rouses-glance (Glance Sender (x || b)) p (sound Sender p) x (reply (at (LastLook true) p) GoesOn) (glance-more Sender b (x || b) p.step (or-more x b) y) (λ e. rw e)
   glance-happens Recorder (plays (TimeOut Recorder) i o) w real b y =
       let p = w.bench.recorder in
-      let x = isSleeping (stanceOf p.step) in
+      let x = is_sleeping (stance_of p.step) in
       rouses-glance (Glance Recorder (x || b)) p (sound Recorder p) x (reply (at (LastLook true) p) GoesOn) (glance-more Recorder b (x || b) p.step (or-more x b) y) (λ e. rw e)
   glance-happens Sender (plays (TimeOut Recorder) i o) w real b y = y
   glance-happens Recorder (plays (TimeOut Sender) i o) w real b y = y
   glance-happens Sender (plays (Push k n l) i o) w real b y =
       let p = w.bench.sender in
-      begun-glance Sender p (ready Sender p) p.closed (k && not p.own.notfull) (not (leb l (payloadCapacity p.own.slot))) (named k n l p) b y tt
+      begun-glance Sender p (ready Sender p) p.closed (k && not p.own.notfull) (not (leb l (payload_capacity p.own.slot))) (named k n l p) b y tt
   glance-happens Recorder (plays (Push k n l) i o) w real b y = y
   glance-happens Recorder (plays (Pop k l) i o) w real b y =
       let p = w.bench.recorder in begun-glance Recorder p (ready Recorder p) p.closed false false (named k 0 l p) b y tt
@@ -286,25 +286,25 @@ module _ (P S v : ℕ) (on : Bool) (power-ok : powerOk P ≡ true) (Slot-ok : sl
   glance-happens Sender (plays (Shutdown Recorder) i o) w real b y = y
   glance-happens Recorder (plays (Shutdown Sender) i o) w real b y = y
 
-  glance-run : (σ : Side) (hs : List Happening) (w : World) → AllTyped hs → Real P S v on w → (b : Bool) → In σ b w → In σ (timedBy σ hs w b) (run hs w)
+  glance-run : (σ : Side) (hs : List Happening) (w : World) → AllTyped hs → Real P S v on w → (b : Bool) → In σ b w → In σ (timed_by σ hs w b) (run hs w)
   unfolding run
   glance-run σ [] w t real b y = y
-  glance-run σ (h ∷ hs) w t real b y = glance-run σ hs (happens h w) t.1 (real-happens P S v on power-ok Slot-ok h w t.0 real) (timedAfter σ h w b) (glance-happens σ h w real b y)
+  glance-run σ (h ∷ hs) w t real b y = glance-run σ hs (happens h w) t.1 (real-happens P S v on power-ok Slot-ok h w t.0 real) (timed_after σ h w b) (glance-happens σ h w real b y)
 
 module _ (r : List ℕ) (P S : ℕ) (on : Bool) (v : ℕ) (fresh : Fresh r P S on v) where
   start : (σ : Side) → In σ false (opened (created r P S on v))
   start Sender = tt
   start Recorder = tt
 
-  glanced : (σ : Side) (hs : List Happening) → AllTyped hs → In σ (timedBy σ hs (opened (created r P S on v)) false) (reached r P S on v hs)
+  glanced : (σ : Side) (hs : List Happening) → AllTyped hs → In σ (timed_by σ hs (opened (created r P S on v)) false) (reached r P S on v hs)
   glanced σ hs t = glance-run P S v on (power-fits r P S on v fresh) (slot-fits r P S on v fresh) σ hs (opened (created r P S on v)) t (real-start r P S on v fresh) false (start σ)
 
   -- a sender never looks once more on a close
-  pub left-recorder : (σ : Side) (hs : List Happening) → AllTyped hs → (partyIn (reached r P S on v hs) σ).step ≡ LastLook false → σ ≡ Recorder
-  left-recorder σ hs t e = subst (Glance σ (timedBy σ hs (opened (created r P S on v)) false)) e (glanced σ hs t)
+  pub left-recorder : (σ : Side) (hs : List Happening) → AllTyped hs → (party_in (reached r P S on v hs) σ).step ≡ LastLook false → σ ≡ Recorder
+  left-recorder σ hs t e = subst (Glance σ (timed_by σ hs (opened (created r P S on v)) false)) e (glanced σ hs t)
 
   pub timed-by-call : (side : Side) → TimedByCall r P S on v side
   timed-by-call side hs t payload lent fault e = by (row side (reached r P S on v hs) payload lent fault Timeout e)
     where
-      by : Given (turn side (reached r P S on v hs).region (partyIn (reached r P S on v hs) side) payload lent fault) Timeout → timedBy side hs (opened (created r P S on v)) false ≡ true
-      by (turn-taken g (timed-out s h)) = subst (Glance side (timedBy side hs (opened (created r P S on v)) false)) s (glanced side hs t)
+      by : Given (turn side (reached r P S on v hs).region (party_in (reached r P S on v hs) side) payload lent fault) Timeout → timed_by side hs (opened (created r P S on v)) false ≡ true
+      by (turn-taken g (timed-out s h)) = subst (Glance side (timed_by side hs (opened (created r P S on v)) false)) s (glanced side hs t)

@@ -16,16 +16,16 @@ use Rattle.types.specs.declared.Fault.{Fault}
 use Rattle.types.specs.declared.Access.{Access}
 use Rattle.types.specs.declared.Step.{Step}
 use Rattle.types.specs.declared.Step.TheVariants.{Rest, Look, Copy, Publish, Check, Raise, Wake, Gate, Spin, Epoch, Again, GateAgain, Wait, Asleep, LastLook, CloseSet, CloseRaise, CloseWake, ShutSet, ShutRaiseNe, ShutWakeNe, ShutRaiseNf, ShutWakeNf}
-use Rattle.layout.specs.Limits.{payloadCapacity}
-use Rattle.rules.specs.Next.{next_at, nextSpec}
-use Rattle.rules.specs.Access.{readOut, value_of, leavesOf, bufferOf}
-use Rattle.rules.specs.Turn.{goes, actSpec, actLeaves, actBuffer, turnSpec, turnLeaves, turnBuffer}
-use Rattle.rules.specs.Touch.{Touch, touch_of, touchedAt, touchedBytes, seenBy, GivenBy, TouchesOne, TouchesNone, SeesOne, GivesOne}
+use Rattle.layout.specs.Limits.{payload_capacity}
+use Rattle.rules.specs.Next.{next_at, next_spec}
+use Rattle.rules.specs.Access.{read_out, value_of, leaves_of, buffer_of}
+use Rattle.rules.specs.Turn.{goes, act_spec, act_leaves, act_buffer, turn_spec, turn_leaves, turn_buffer}
+use Rattle.rules.specs.Touch.{Touch, touch_of, touched_at, touched_bytes, seen_by, GivenBy, TouchesOne, TouchesNone, SeesOne, GivesOne}
 use Rattle.rules.proofs.Does.{Does, does, nothing, looks, flags, reads as epoch, writes as fill, takes as read, stores as store, raises as ring, closes as close, shuts as shut, waits as wait, wakes as wake}
 use Rattle.rules.proofs.OneAccess.{writes_at, writes, leaves-other, leaves_all}
 
 -- the step's rows are the access's rows: how many bytes, and where
-bytes-are : (n payload : ℕ) (side : Side) (s : Step) → writes (next_at s side n) payload ≡ touchedBytes (touch_of side s) payload
+bytes-are : (n payload : ℕ) (side : Side) (s : Step) → writes (next_at s side n) payload ≡ touched_bytes (touch_of side s) payload
 bytes-are n payload side Rest = refl
 bytes-are n payload side Look = refl
 bytes-are n payload Sender Copy = refl
@@ -51,7 +51,7 @@ bytes-are n payload side (ShutWakeNe c) = refl
 bytes-are n payload side (ShutRaiseNf c e) = refl
 bytes-are n payload side (ShutWakeNf c e) = refl
 
-place_is : (own : Own) (p : Party) (side : Side) (s : Step) → p.own ≡ own → own.side ≡ side → writes_at own (next_at s side p.counter) ≡ touchedAt (touch_of side s) p
+place_is : (own : Own) (p : Party) (side : Side) (s : Step) → p.own ≡ own → own.side ≡ side → writes_at own (next_at s side p.counter) ≡ touched_at (touch_of side s) p
 place_is own p side Rest o q = refl
 place_is own p side Look o q = refl
 place_is own p Sender Copy o q = rw o
@@ -78,7 +78,7 @@ place_is own p side (ShutRaiseNf c e) o q = refl
 place_is own p side (ShutWakeNf c e) o q = refl
 
 -- a value seen
-value-is : (r : List ℕ) (p : Party) (side : Side) (s : Step) → value_of r p.own (next_at s side p.counter) ≡ seenBy side s r p
+value-is : (r : List ℕ) (p : Party) (side : Side) (s : Step) → value_of r p.own (next_at s side p.counter) ≡ seen_by side s r p
 unfolding value_of
 value-is r p side Rest = refl
 value-is r p side Look = refl
@@ -105,18 +105,18 @@ value-is r p side (ShutWakeNe c) = refl
 value-is r p side (ShutRaiseNf c e) = refl
 value-is r p side (ShutWakeNf c e) = refl
 
-given_is : (r s : List ℕ) (p : Party) (buffer : List ℕ) (side : Side) (u : Step) → GivenBy side u r s p → bufferOf r p.own (next_at u side p.counter) p.length buffer ≡ bufferOf s p.own (next_at u side p.counter) p.length buffer
-unfolding bufferOf
+given_is : (r s : List ℕ) (p : Party) (buffer : List ℕ) (side : Side) (u : Step) → GivenBy side u r s p → buffer_of r p.own (next_at u side p.counter) p.length buffer ≡ buffer_of s p.own (next_at u side p.counter) p.length buffer
+unfolding buffer_of
 given_is r s p buffer side u h = by side u (next_at u side p.counter) (does side p.counter u) h
   where
-    by : (side : Side) (u : Step) (a : Access) → Does side p.counter u a → GivenBy side u r s p → bufferOf r p.own a p.length buffer ≡ bufferOf s p.own a p.length buffer
+    by : (side : Side) (u : Step) (a : Access) → Does side p.counter u a → GivenBy side u r s p → buffer_of r p.own a p.length buffer ≡ buffer_of s p.own a p.length buffer
     by side u a (nothing l) h = refl
     by side u a (looks l) h = refl
     by side u a (flags l) h = refl
     by side u a epoch h = refl
     by side u a (fill q) h = refl
     by Sender u a (read q) h = absurd (let z : ◌≡◌ {A = ℕ} 0 1 = cc in omega arith)
-    by Recorder u a (read q) h = ap (readOut p.length (payloadCapacity p.own.slot) buffer) h
+    by Recorder u a (read q) h = ap (read_out p.length (payload_capacity p.own.slot) buffer) h
     by side u a store h = refl
     by side u a (ring l b) h = refl
     by side u a close h = refl
@@ -132,32 +132,32 @@ module _ (side : Side) (p : Party) (payload buffer : List ℕ) (fault : Fault) w
   outside k a n b m e f o = rw (e, f) o
 
   pub touches-one : TouchesOne side p payload buffer fault
-  unfolding turnLeaves actLeaves nextSpec
+  unfolding turn_leaves act_leaves next_spec
   touches-one r k o = by (pick_goes r)
     where
-      by : (b : Bool) → get_or (pick b (leavesOf r p.own (next_at p.step p.own.side p.counter) p.tag payload) r) k 0 ≡ get_or r k 0
+      by : (b : Bool) → get_or (pick b (leaves_of r p.own (next_at p.step p.own.side p.counter) p.tag payload) r) k 0 ≡ get_or r k 0
       by false = refl
       by true =
           leaves-other r p.own p.tag payload (next_at p.step p.own.side p.counter) k
           (outside k _ _ _ _ (place_is p.own p p.own.side p.step refl refl) (bytes-are p.counter (length payload) p.own.side p.step) o)
 
   pub touches_none : TouchesNone side p payload buffer fault
-  unfolding turnLeaves actLeaves nextSpec
+  unfolding turn_leaves act_leaves next_spec
   touches_none e r = by (pick_goes r)
     where
-      by : (b : Bool) → pick b (leavesOf r p.own (next_at p.step p.own.side p.counter) p.tag payload) r ≡ r
+      by : (b : Bool) → pick b (leaves_of r p.own (next_at p.step p.own.side p.counter) p.tag payload) r ≡ r
       by false = refl
       by true =
           leaves_all r p.own p.tag payload (next_at p.step p.own.side p.counter)
-          (bytes-are p.counter (length payload) p.own.side p.step ∙ ap (λ (x : Touch). touchedBytes x (length payload)) e)
+          (bytes-are p.counter (length payload) p.own.side p.step ∙ ap (λ (x : Touch). touched_bytes x (length payload)) e)
 
   pub sees-one : SeesOne side p payload buffer fault
-  unfolding turnSpec actSpec nextSpec
+  unfolding turn_spec act_spec next_spec
   sees-one r s l e =
       let a = next_at p.step p.own.side p.counter in
       let v : value_of r p.own a ≡ value_of s p.own a = value-is r p p.own.side p.step ∙ e ∙ sym (value-is s p p.own.side p.step) in
       rw (l, v)
 
   pub gives_one : GivesOne side p payload buffer fault
-  unfolding turnBuffer actBuffer nextSpec
+  unfolding turn_buffer act_buffer next_spec
   gives_one r s l h = rw (l, given_is r s p buffer p.own.side p.step h)

@@ -14,43 +14,43 @@ use Rattle.types.specs.declared.Nap.TheVariants.{Sleeps as SleepsNow, Returns}
 use Rattle.types.specs.declared.Door.TheVariants.{Open}
 use Rattle.types.specs.declared.Step.{Step}
 use Rattle.types.specs.declared.Step.TheVariants.{Rest, Look, Copy, Publish, Check, Raise, Wake, Gate, Spin, Epoch, Again, GateAgain, Wait, Asleep, LastLook, CloseSet, CloseRaise, CloseWake, ShutSet, ShutRaiseNe, ShutWakeNe, ShutRaiseNf, ShutWakeNf}
-use Rattle.rules.specs.Sides.{sleepBell, waitOp}
-use Rattle.rules.specs.Looks.{napOf}
-use Rattle.rules.specs.Steps.{napMove, waitMove}
-use Rattle.rules.specs.Take.{stepAfter}
+use Rattle.rules.specs.Sides.{sleep_bell, wait_op}
+use Rattle.rules.specs.Looks.{nap_of}
+use Rattle.rules.specs.Steps.{nap_move, wait_move}
+use Rattle.rules.specs.Take.{step_after}
 use Rattle.rules.specs.Next.{next_at}
-use Rattle.rules.specs.Stretch.{inWaitAt, inWait}
-use Rattle.rules.proofs.After.{bellBy}
+use Rattle.rules.specs.Stretch.{in_wait_at, in_wait}
+use Rattle.rules.proofs.After.{bell_by}
 use Rattle.rules.proofs.Leads.{Sight, Onward, straight, around, asks, Leads, idles, finds, blocks, gives_up, copies, spills, tells, stores, owes, passes, raises, wakes, enters, stops, finds-spin, spins, reads, finds-again, stays, enters-again, stops-again, returns, ends, dreams, glances, glances-again, times-out, finds-last, finds-none, closes, closes-alone, close-raises, close-wakes, shuts, shut-raises, shut-wakes, shut-raises-again, shut-wakes-again, sleeps as falls-asleep}
 use Rattle.rules.proofs.Does.{less, less_one}
-use Rattle.rules.proofs.Heard.{setsNone}
+use Rattle.rules.proofs.Heard.{sets_none}
 use Rattle.rules.proofs.Effects.{sets-none}
 
 -- the turns that are left until sleep, by whether the bell still reads the epoch
-abbrev pub toSleep : (bell spins : ℕ) → Step → ℕ
-toSleep b a Rest = 0
-toSleep b a Look = 6 + a
-toSleep b a Copy = 0
-toSleep b a (Publish l t) = 0
-toSleep b a (Check l t) = 0
-toSleep b a (Raise l t) = 0
-toSleep b a (Wake l t) = 0
-toSleep b a Gate = 5 + a
-toSleep b a (Spin n) = 5 + n
-toSleep b a Epoch = 4
-toSleep b a (Again e) = pick (eqb b e) 3 (9 + a)
-toSleep b a (GateAgain e) = pick (eqb b e) 2 (8 + a)
-toSleep b a (Wait e) = pick (eqb b e) 1 (7 + a)
-toSleep b a Asleep = 0
-toSleep b a (LastLook c) = 0
-toSleep b a CloseSet = 0
-toSleep b a CloseRaise = 0
-toSleep b a CloseWake = 0
-toSleep b a (ShutSet c) = 0
-toSleep b a (ShutRaiseNe c) = 0
-toSleep b a (ShutWakeNe c) = 0
-toSleep b a (ShutRaiseNf c e) = 0
-toSleep b a (ShutWakeNf c e) = 0
+abbrev pub to_sleep : (bell spins : ℕ) → Step → ℕ
+to_sleep b a Rest = 0
+to_sleep b a Look = 6 + a
+to_sleep b a Copy = 0
+to_sleep b a (Publish l t) = 0
+to_sleep b a (Check l t) = 0
+to_sleep b a (Raise l t) = 0
+to_sleep b a (Wake l t) = 0
+to_sleep b a Gate = 5 + a
+to_sleep b a (Spin n) = 5 + n
+to_sleep b a Epoch = 4
+to_sleep b a (Again e) = pick (eqb b e) 3 (9 + a)
+to_sleep b a (GateAgain e) = pick (eqb b e) 2 (8 + a)
+to_sleep b a (Wait e) = pick (eqb b e) 1 (7 + a)
+to_sleep b a Asleep = 0
+to_sleep b a (LastLook c) = 0
+to_sleep b a CloseSet = 0
+to_sleep b a CloseRaise = 0
+to_sleep b a CloseWake = 0
+to_sleep b a (ShutSet c) = 0
+to_sleep b a (ShutRaiseNe c) = 0
+to_sleep b a (ShutWakeNe c) = 0
+to_sleep b a (ShutRaiseNf c e) = 0
+to_sleep b a (ShutWakeNf c e) = 0
 
 at_most : (t : Bool) (x y most : ℕ) → x ≤ most → y ≤ most → pick t x y ≤ most
 at_most true x y most h g = h
@@ -62,8 +62,8 @@ not_none false x y h g l = omega arith
 
 -- at most nine and the spins are left, and none at the end alone: asleep
 pub record NearSleep (b a : ℕ) (s : Step) : Type 0 where
-  pub nine : ((n : ℕ) → s ≡ Spin n → n < a) → toSleep b a s ≤ 9 + a
-  pub slept : inWait s ≡ true → toSleep b a s ≤ 0 → s ≡ Asleep
+  pub nine : ((n : ℕ) → s ≡ Spin n → n < a) → to_sleep b a s ≤ 9 + a
+  pub slept : in_wait s ≡ true → to_sleep b a s ≤ 0 → s ≡ Asleep
 
 pub near-sleep : (b a : ℕ) (s : Step) → NearSleep b a s
 near-sleep b a Rest = record { nine = λ f. omega arith; slept = λ w h. absurd (let u : ◌≡◌ {A = ℕ} 0 1 = cc in omega arith) }
@@ -91,10 +91,10 @@ near-sleep b a (ShutRaiseNf c e) = record { nine = λ f. omega arith; slept = λ
 near-sleep b a (ShutWakeNf c e) = record { nine = λ f. omega arith; slept = λ w h. absurd (let u : ◌≡◌ {A = ℕ} 0 1 = cc in omega arith) }
 
 -- nothing that a waiter does stores anything
-pub wait-stores-none : (s : Step) → inWait s ≡ true → setsNone s ≡ true
-wait-stores-none = sets-none inWait refl (λ c. refl)
+pub wait-stores-none : (s : Step) → in_wait s ≡ true → sets_none s ≡ true
+wait-stores-none = sets-none in_wait refl (λ c. refl)
 
-pub wait-bell : (side : Side) (n : ℕ) (b : Bell) (c : ℕ) (s : Step) → inWait s ≡ true → bellBy (next_at s side n) b c ≡ c
+pub wait-bell : (side : Side) (n : ℕ) (b : Bell) (c : ℕ) (s : Step) → in_wait s ≡ true → bell_by (next_at s side n) b c ≡ c
 wait-bell side n b c Rest w = absurd (let u : ◌≡◌ {A = ℕ} 0 1 = cc in omega arith)
 wait-bell side n b c Look w = refl
 wait-bell side n b c Copy w = absurd (let u : ◌≡◌ {A = ℕ} 0 1 = cc in omega arith)
@@ -142,12 +142,12 @@ not-naps s a l true q = a q
 not-naps s a l false q = l q
 
 -- a spin, or the look at the bell
-spun : (b a n : ℕ) (t : Step) → Onward n t → toSleep b a t ≡ less (5 + n)
+spun : (b a n : ℕ) (t : Step) → Onward n t → to_sleep b a t ≡ less (5 + n)
 spun b a n t straight = refl
 spun b a n t (around m) = less_one (5 + m) (5 + suc m) (omega arith)
 
-pub drowse : (g : Sight) → g.room ≡ 0 → g.bell < 2 ^ 32 → g.door ≡ Open → g.blocking ≡ true → (s next : Step) → Leads g s next → inWait s ≡ true → ((e : ℕ) → s ≡ Wait e → next ≡ pick (eqb g.bell e) Asleep Look)
-    → (inWait next ≡ true) × (toSleep g.bell g.spins next ≡ less (toSleep g.bell g.spins s))
+pub drowse : (g : Sight) → g.room ≡ 0 → g.bell < 2 ^ 32 → g.door ≡ Open → g.blocking ≡ true → (s next : Step) → Leads g s next → in_wait s ≡ true → ((e : ℕ) → s ≡ Wait e → next ≡ pick (eqb g.bell e) Asleep Look)
+    → (in_wait next ≡ true) × (to_sleep g.bell g.spins next ≡ less (to_sleep g.bell g.spins s))
 drowse g none l o m s next idles w f = absurd (let u : ◌≡◌ {A = ℕ} 0 1 = cc in omega arith)
 drowse g none l o m s next (finds h) w f = absurd (omega arith)
 drowse g none l o m s next (blocks h q) w f = (refl, less_one (5 + g.spins) (6 + g.spins) (omega arith))
@@ -160,9 +160,9 @@ drowse g none l o m s next (owes h) w f = absurd (let u : ◌≡◌ {A = ℕ} 0 
 drowse g none l o m s next (passes h) w f = absurd (let u : ◌≡◌ {A = ℕ} 0 1 = cc in omega arith)
 drowse g none l o m s next raises w f = absurd (let u : ◌≡◌ {A = ℕ} 0 1 = cc in omega arith)
 drowse g none l o m s next wakes w f = absurd (let u : ◌≡◌ {A = ℕ} 0 1 = cc in omega arith)
-drowse g none l o m s next (enters h u) w f = (ap inWaitAt (asks _ _ u), spun g.bell g.spins _ next u)
+drowse g none l o m s next (enters h u) w f = (ap in_wait_at (asks _ _ u), spun g.bell g.spins _ next u)
 drowse g none l o m s next (finds-spin h) w f = absurd (omega arith)
-drowse g none l o m s next (spins h u) w f = (ap inWaitAt (asks _ _ u), spun g.bell g.spins _ next u)
+drowse g none l o m s next (spins h u) w f = (ap in_wait_at (asks _ _ u), spun g.bell g.spins _ next u)
 drowse g none l o m s next (stops h u) w f = absurd (let u : ◌≡◌ {A = ℕ} 0 1 = cc in omega arith)
 drowse g none l o m s next reads w f = (refl, read-fresh g.bell (9 + g.spins) l)
 drowse g none l o m s next (finds-again h) w f = absurd (omega arith)
@@ -189,10 +189,10 @@ drowse g none l o m s next shut-raises-again w f = absurd (let u : ◌≡◌ {A 
 drowse g none l o m s next shut-wakes-again w f = absurd (let u : ◌≡◌ {A = ℕ} 0 1 = cc in omega arith)
 
 -- where a wait that does not fail leads
-pub nap-step : (own : Own) (value e : ℕ) → stepAfter (waitMove own value 0 e) (Wait e) ≡ pick (eqb value e) Asleep Look
-unfolding waitMove napOf
+pub nap-step : (own : Own) (value e : ℕ) → step_after (wait_move own value 0 e) (Wait e) ≡ pick (eqb value e) Asleep Look
+unfolding wait_move nap_of
 nap-step own value e = by (eqb value e)
   where
-    by : (t : Bool) → stepAfter (napMove (pick t SleepsNow Returns) (waitOp (sleepBell own.side)) 0) (Wait e) ≡ pick t Asleep Look
+    by : (t : Bool) → step_after (nap_move (pick t SleepsNow Returns) (wait_op (sleep_bell own.side)) 0) (Wait e) ≡ pick t Asleep Look
     by true = refl
     by false = refl

@@ -8,8 +8,8 @@ use Rattle.types.specs.declared.Step.{Step}
 use Rattle.types.specs.declared.Step.TheVariants.{Rest, Look, Copy, Publish, Check, Raise, Wake, Gate, Spin, Epoch, Again, GateAgain, Wait, Asleep, LastLook, CloseSet, CloseRaise, CloseWake, ShutSet, ShutRaiseNe, ShutWakeNe, ShutRaiseNf, ShutWakeNf}
 use Rattle.types.specs.declared.Stance.{Stance}
 use Rattle.types.specs.declared.Stance.TheVariants.{Resting, Sleeping, Copying, Publishing, Closing, Moving}
-use Rattle.rules.specs.Take.{stanceOf}
-use Rattle.rules.specs.Calls.{isResting, isSleeping}
+use Rattle.rules.specs.Take.{stance_of}
+use Rattle.rules.specs.Calls.{is_resting, is_sleeping}
 use Rattle.rules.specs.Stretch.{moves}
 use Rattle.rules.specs.Phase.{Phase, resting, looking, copying, publishing, telling, asking, armed, poised, waits, sleeps, glancing, leaving, phase}
 
@@ -41,7 +41,7 @@ pub data View : Step → Type 0 where
   at_rest : View Rest
   at_copy : View Copy
   asleep : View Asleep
-  elsewhere : {s : Step} → acting (stanceOf s) ≡ true → awake (phase s) ≡ true → View s
+  elsewhere : {s : Step} → acting (stance_of s) ≡ true → awake (phase s) ≡ true → View s
 
 pub view : (s : Step) → View s
 view Rest = at_rest
@@ -68,7 +68,7 @@ view (ShutWakeNe c) = elsewhere refl refl
 view (ShutRaiseNf c e) = elsewhere refl refl
 view (ShutWakeNf c e) = elsewhere refl refl
 
-acting-moves : (s : Stance) → acting s ≡ true → (moves s ≡ true) × ((isResting s ≡ false) × (isSleeping s ≡ false))
+acting-moves : (s : Stance) → acting s ≡ true → (moves s ≡ true) × ((is_resting s ≡ false) × (is_sleeping s ≡ false))
 acting-moves Resting e = absurd (let z : ◌≡◌ {A = ℕ} 0 1 = cc in omega arith)
 acting-moves Sleeping e = absurd (let z : ◌≡◌ {A = ℕ} 0 1 = cc in omega arith)
 acting-moves Copying e = absurd (let z : ◌≡◌ {A = ℕ} 0 1 = cc in omega arith)
@@ -76,14 +76,14 @@ acting-moves Publishing e = (refl, (refl, refl))
 acting-moves Closing e = (refl, (refl, refl))
 acting-moves Moving e = (refl, (refl, refl))
 
-pub acting-awake : (s : Stance) → acting s ≡ true → isSleeping s ≡ false
+pub acting-awake : (s : Stance) → acting s ≡ true → is_sleeping s ≡ false
 acting-awake s a = (acting-moves s a).1.1
 
 -- the two steps that no turn leads on from, and the others
 pub data Kind : Step → Type 0 where
   rests : Kind Rest
   dreams : Kind Asleep
-  acts : {s : Step} → moves (stanceOf s) ≡ true → Kind s
+  acts : {s : Step} → moves (stance_of s) ≡ true → Kind s
 
 pub kind : (s : Step) → Kind s
 kind s = by s (view s)
@@ -92,39 +92,39 @@ kind s = by s (view s)
     by s at_rest = rests
     by s at_copy = acts refl
     by s asleep = dreams
-    by s (elsewhere a w) = acts (acting-moves (stanceOf s) a).0
+    by s (elsewhere a w) = acts (acting-moves (stance_of s) a).0
 
 -- one that is neither at rest nor asleep moves
-pub moves-else : (s : Step) → (s ≡ Rest → ⊥) → (s ≡ Asleep → ⊥) → moves (stanceOf s) ≡ true
+pub moves-else : (s : Step) → (s ≡ Rest → ⊥) → (s ≡ Asleep → ⊥) → moves (stance_of s) ≡ true
 moves-else s r d = by s (kind s) r d
   where
-    by : (s : Step) → Kind s → (s ≡ Rest → ⊥) → (s ≡ Asleep → ⊥) → moves (stanceOf s) ≡ true
+    by : (s : Step) → Kind s → (s ≡ Rest → ⊥) → (s ≡ Asleep → ⊥) → moves (stance_of s) ≡ true
     by s rests r d = absurd (r refl)
     by s dreams r d = absurd (d refl)
     by s (acts move) r d = move
 
-pub resting-step : (s : Step) → isResting (stanceOf s) ≡ true → s ≡ Rest
+pub resting-step : (s : Step) → is_resting (stance_of s) ≡ true → s ≡ Rest
 resting-step s e = by s (view s) e
   where
-    by : (s : Step) → View s → isResting (stanceOf s) ≡ true → s ≡ Rest
+    by : (s : Step) → View s → is_resting (stance_of s) ≡ true → s ≡ Rest
     by s at_rest e = refl
     by s at_copy e = absurd (let z : ◌≡◌ {A = ℕ} 0 1 = cc in omega arith)
     by s asleep e = absurd (let z : ◌≡◌ {A = ℕ} 0 1 = cc in omega arith)
-    by s (elsewhere a w) e = absurd (let f = sym e ∙ (acting-moves (stanceOf s) a).1.0 in let z : ◌≡◌ {A = ℕ} 0 1 = cc in omega arith)
+    by s (elsewhere a w) e = absurd (let f = sym e ∙ (acting-moves (stance_of s) a).1.0 in let z : ◌≡◌ {A = ℕ} 0 1 = cc in omega arith)
 
-pub sleeping-step : (s : Step) → isSleeping (stanceOf s) ≡ true → s ≡ Asleep
+pub sleeping-step : (s : Step) → is_sleeping (stance_of s) ≡ true → s ≡ Asleep
 sleeping-step s e = by s (view s) e
   where
-    by : (s : Step) → View s → isSleeping (stanceOf s) ≡ true → s ≡ Asleep
+    by : (s : Step) → View s → is_sleeping (stance_of s) ≡ true → s ≡ Asleep
     by s at_rest e = absurd (let z : ◌≡◌ {A = ℕ} 0 1 = cc in omega arith)
     by s at_copy e = absurd (let z : ◌≡◌ {A = ℕ} 0 1 = cc in omega arith)
     by s asleep e = refl
-    by s (elsewhere a w) e = absurd (let f = sym e ∙ (acting-moves (stanceOf s) a).1.1 in let z : ◌≡◌ {A = ℕ} 0 1 = cc in omega arith)
+    by s (elsewhere a w) e = absurd (let f = sym e ∙ (acting-moves (stance_of s) a).1.1 in let z : ◌≡◌ {A = ℕ} 0 1 = cc in omega arith)
 
-pub copying-step : (s : Step) → stanceOf s ≡ Copying → s ≡ Copy
+pub copying-step : (s : Step) → stance_of s ≡ Copying → s ≡ Copy
 copying-step s e = by s (view s) e
   where
-    by : (s : Step) → View s → stanceOf s ≡ Copying → s ≡ Copy
+    by : (s : Step) → View s → stance_of s ≡ Copying → s ≡ Copy
     by s at_rest e = absurd (let z : ◌≡◌ {A = ℕ} 0 1 = cc in omega arith)
     by s at_copy e = refl
     by s asleep e = absurd (let z : ◌≡◌ {A = ℕ} 0 1 = cc in omega arith)
@@ -146,7 +146,7 @@ is-copy s = by s (view s)
     by s at_rest = inr (λ e. let z : ◌≡◌ {A = ℕ} 0 1 = cc in omega arith)
     by s at_copy = inl refl
     by s asleep = inr (λ e. let z : ◌≡◌ {A = ℕ} 0 1 = cc in omega arith)
-    by s (elsewhere a w) = inr (λ e. let f = sym a ∙ ap (λ (u : Step). acting (stanceOf u)) e in let z : ◌≡◌ {A = ℕ} 0 1 = cc in omega arith)
+    by s (elsewhere a w) = inr (λ e. let f = sym a ∙ ap (λ (u : Step). acting (stance_of u)) e in let z : ◌≡◌ {A = ℕ} 0 1 = cc in omega arith)
 
 pub is-asleep : (s : Step) → (s ≡ Asleep) ⊎ (s ≡ Asleep → ⊥)
 is-asleep s = by s (view s)

@@ -12,23 +12,23 @@ use Rattle.types.specs.declared.Bell.TheVariants.{NotEmpty, NotFull}
 use Rattle.types.specs.declared.Party.{Party}
 use Rattle.types.specs.declared.Step.{Step}
 use Rattle.types.specs.declared.Step.TheVariants.{Rest, Look, Copy, Publish, Check, Raise, Wake, Gate, Spin, Epoch, Again, GateAgain, Wait, Asleep, LastLook, CloseSet, CloseRaise, CloseWake, ShutSet, ShutRaiseNe, ShutWakeNe, ShutRaiseNf, ShutWakeNf}
-use Rattle.rules.specs.Sides.{other, sleepBell}
-use Rattle.rules.specs.Take.{stanceOf}
+use Rattle.rules.specs.Sides.{other, sleep_bell}
+use Rattle.rules.specs.Take.{stance_of}
 use Rattle.rules.specs.Next.{next_at}
-use Rattle.rules.specs.Calls.{isSleeping, at}
-use Rattle.rules.specs.Turn.{wokeWith, wokeOf}
-use Rattle.rules.specs.Bench.{sameBell, hears, wakened}
+use Rattle.rules.specs.Calls.{is_sleeping, at}
+use Rattle.rules.specs.Turn.{woke_with, woke_of}
+use Rattle.rules.specs.Bench.{same_bell, hears, wakened}
 use Rattle.rules.specs.Phase.{Phase, resting, looking, copying, publishing, telling, asking, armed, poised, waits, sleeps, glancing, leaving, phase}
 use Rattle.rules.proofs.Views.{awake, View, at_rest, at_copy, asleep, elsewhere, view, acting-awake}
-use Rattle.rules.proofs.Heard.{risen, wakesAt}
+use Rattle.rules.proofs.Heard.{risen, wakes_at}
 
 -- a wake is heard at its own bell, unless it fails
-unless : (b : Bell) (side : Side) (failed : Bool) → hears side (wokeWith failed b) ≡ (sameBell b (sleepBell side) && not failed)
-unless b side true = sym (and-false (sameBell b (sleepBell side)))
-unless b side false = sym (and-true (sameBell b (sleepBell side)))
+unless : (b : Bell) (side : Side) (failed : Bool) → hears side (woke_with failed b) ≡ (same_bell b (sleep_bell side) && not failed)
+unless b side true = sym (and-false (same_bell b (sleep_bell side)))
+unless b side false = sym (and-true (same_bell b (sleep_bell side)))
 
 -- whom the mover wakes, where no failure is announced
-pub heard-by : (side : Side) (n error : ℕ) (s : Step) → hears (other side) (wokeOf (next_at s side n) error) ≡ (wakesAt side s && not (ltb 0 error))
+pub heard-by : (side : Side) (n error : ℕ) (s : Step) → hears (other side) (woke_of (next_at s side n) error) ≡ (wakes_at side s && not (ltb 0 error))
 heard-by side n error Rest = refl
 heard-by side n error Look = refl
 heard-by Sender n error Copy = refl
@@ -72,13 +72,13 @@ risen-awake sleeps e = absurd (let z : ◌≡◌ {A = ℕ} 0 1 = cc in omega ari
 risen-awake glancing e = refl
 risen-awake leaving e = refl
 
-risen-phase : (b : Bool) (q : Party) (s : Step) → q.step ≡ s → View s → phase (pick (b && isSleeping (stanceOf s)) (at Look q) q).step ≡ risen b (phase s)
+risen-phase : (b : Bool) (q : Party) (s : Step) → q.step ≡ s → View s → phase (pick (b && is_sleeping (stance_of s)) (at Look q) q).step ≡ risen b (phase s)
 risen-phase false q s e v = ap phase e
 risen-phase true q s e at_rest = ap phase e
 risen-phase true q s e at_copy = ap phase e
 risen-phase true q s e asleep = refl
-risen-phase true q s e (elsewhere a w) = rw (acting-awake (stanceOf s) a, risen-awake (phase s) w) (ap phase e)
+risen-phase true q s e (elsewhere a w) = rw (acting-awake (stance_of s) a, risen-awake (phase s) w) (ap phase e)
 
-pub woken-phase : (side : Side) (q : Party) (n error : ℕ) (s : Step) → phase (wakened (other side) q (wokeOf (next_at s side n) error)).step ≡ risen (wakesAt side s && not (ltb 0 error)) (phase q.step)
+pub woken-phase : (side : Side) (q : Party) (n error : ℕ) (s : Step) → phase (wakened (other side) q (woke_of (next_at s side n) error)).step ≡ risen (wakes_at side s && not (ltb 0 error)) (phase q.step)
 unfolding wakened
-woken-phase side q n error s = rw (heard-by side n error s) (risen-phase (wakesAt side s && not (ltb 0 error)) q q.step refl (view q.step))
+woken-phase side q n error s = rw (heard-by side n error s) (risen-phase (wakes_at side s && not (ltb 0 error)) q q.step refl (view q.step))

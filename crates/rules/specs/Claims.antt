@@ -1,6 +1,6 @@
 -- What is claimed of every run: demand 3 in document 01's words. The proofs are in proofs/.
 use Rattle.std.specs.Prelude.{◌≡◌, Bool, true, false, not, ◌&&◌, ◌||◌, List, [], ◌∷◌, ◌++◌, ℕ, ◌+◌, ◌-◌, ◌*◌, ◌^◌, ◌<◌, ◌≤◌, leb, length, take}
-use Rattle.words.specs.Le.{leAt}
+use Rattle.words.specs.Le.{le_at}
 use Rattle.words.specs.Wrap.{minus}
 use Rattle.types.specs.Pick.{pick}
 use Rattle.types.specs.declared.Side.{Side}
@@ -13,23 +13,23 @@ use Rattle.types.specs.declared.Stance.{Stance}
 use Rattle.types.specs.declared.Event.{Event}
 use Rattle.types.specs.declared.Event.TheVariants.{Turn, Failing}
 use Rattle.types.specs.declared.Answer.TheVariants.{Done, Closed, Timeout, Begun, Nothing}
-use Rattle.layout.specs.Limits.{capacity, payloadCapacity}
-use Rattle.layout.specs.Flags.{worth, bitOn, attachMark}
-use Rattle.layout.specs.Header.{flagsAt, counterAt, bellAt}
-use Rattle.layout.specs.Create.{createAnswer, created}
-use Rattle.layout.specs.Attach.{attachAnswer}
-use Rattle.rules.specs.Sides.{other, sleepBell}
+use Rattle.layout.specs.Limits.{capacity, payload_capacity}
+use Rattle.layout.specs.Flags.{worth, bit_on, attach_mark}
+use Rattle.layout.specs.Header.{flags_at, counter_at, bell_at}
+use Rattle.layout.specs.Create.{create_answer, created}
+use Rattle.layout.specs.Attach.{attach_answer}
+use Rattle.rules.specs.Sides.{other, sleep_bell}
 use Rattle.types.specs.declared.Party.{Party}
-use Rattle.rules.specs.Calls.{sound, pushSpec, popSpec, closeSpec, shutSpec}
-use Rattle.rules.specs.Turn.{turnSpec}
+use Rattle.rules.specs.Calls.{sound, push_spec, pop_spec, close_spec, shut_spec}
+use Rattle.rules.specs.Turn.{turn_spec}
 use Rattle.rules.specs.Bench.{played}
-use Rattle.rules.specs.Run.{Note, Trace, World, Happening, attaches, plays, partyIn, takes, happens, run, opened}
-use Rattle.rules.specs.Premises.{AllTyped, AllFair, AllLand, rung, partings, Quiet, down, closedBit}
-use Rattle.rules.specs.Stretch.{moves, calling, ticksBy, ticks, beats, OwnDoing, AllOwn, Willing, inCall, notesOf, holdsEpoch, Underway, inWait, Turns, slack}
+use Rattle.rules.specs.Run.{Note, Trace, World, Happening, attaches, plays, party_in, takes, happens, run, opened}
+use Rattle.rules.specs.Premises.{AllTyped, AllFair, AllLand, rung, partings, Quiet, down, closed_bit}
+use Rattle.rules.specs.Stretch.{moves, calling, ticks_by, ticks, beats, OwnDoing, AllOwn, Willing, in_call, notes_of, holds_epoch, Underway, in_wait, Turns, slack}
 
 -- how many notes wait: head − tail, in the region's bytes
 abbrev pub waiting : World → ℕ
-waiting w = minus 64 (leAt 8 w.region (counterAt Sender)) (leAt 8 w.region (counterAt Recorder))
+waiting w = minus 64 (le_at 8 w.region (counter_at Sender)) (le_at 8 w.region (counter_at Recorder))
 
 -- a side's room: free slots for the sender, waiting notes for the recorder
 abbrev pub room : Side → (capacity : ℕ) → World → ℕ
@@ -54,38 +54,38 @@ Carries l t trace =
 
 -- at a spin no more than n follow it
 abbrev pub Follow : Side → (n : ℕ) → World → Type 0
-Follow side n w = (m : ℕ) → (partyIn w side).step ≡ Spin m → m ≤ n
+Follow side n w = (m : ℕ) → (party_in w side).step ≡ Spin m → m ≤ n
 
 -- once the other has closed, a recorder looks once more
-abbrev pub lastLooks : Side → ℕ
-lastLooks Sender = 0
-lastLooks Recorder = 1
+abbrev pub last_looks : Side → ℕ
+last_looks Sender = 0
+last_looks Recorder = 1
 
 -- T4's number: 7; or, at a spin that n may follow, these n and 4 turns and the last look, if that is more
-abbrev pub stopTurns : Side → (n : ℕ) → ℕ
-stopTurns side n = pick (leb (n + 4 + lastLooks side) 7) 7 (n + 4 + lastLooks side)
+abbrev pub stop_turns : Side → (n : ℕ) → ℕ
+stop_turns side n = pick (leb (n + 4 + last_looks side) 7) 7 (n + 4 + last_looks side)
 
 -- T8: asking is taken. A party at rest, with a sound record (attached, of that side, its sizes, spin count and length within the
 -- limits), is begun: a push that is not closed, not 19 and not 18; a pop and a close that are not closed; a shutdown always
 abbrev pub PushBegins : Party → Type 0
 PushBegins p = sound Sender p ≡ true → p.step ≡ Rest → p.closed ≡ false → (blocking : Bool) (tag length : ℕ)
-    → (blocking && not p.own.notfull) ≡ false → length ≤ payloadCapacity p.own.slot
-    → pushSpec p blocking tag length ≡ record { party = record { own = p.own; closed = p.closed; counter = p.counter; blocking = blocking; tag = tag; length = length; step = Look }; answer = Begun }
+    → (blocking && not p.own.notfull) ≡ false → length ≤ payload_capacity p.own.slot
+    → push_spec p blocking tag length ≡ record { party = record { own = p.own; closed = p.closed; counter = p.counter; blocking = blocking; tag = tag; length = length; step = Look }; answer = Begun }
 
 abbrev pub PopBegins : Party → Type 0
 PopBegins p = sound Recorder p ≡ true → p.step ≡ Rest → p.closed ≡ false → (blocking : Bool) (length : ℕ)
-    → popSpec p blocking length ≡ record { party = record { own = p.own; closed = p.closed; counter = p.counter; blocking = blocking; tag = 0; length = length; step = Look }; answer = Begun }
+    → pop_spec p blocking length ≡ record { party = record { own = p.own; closed = p.closed; counter = p.counter; blocking = blocking; tag = 0; length = length; step = Look }; answer = Begun }
 
 abbrev pub CloseBegins : Side → Party → Type 0
-CloseBegins side p = sound side p ≡ true → p.step ≡ Rest → p.closed ≡ false → closeSpec side p ≡ record { party = record { own = p.own; closed = p.closed; counter = p.counter; blocking = p.blocking; tag = p.tag; length = p.length; step = CloseSet }; answer = Begun }
+CloseBegins side p = sound side p ≡ true → p.step ≡ Rest → p.closed ≡ false → close_spec side p ≡ record { party = record { own = p.own; closed = p.closed; counter = p.counter; blocking = p.blocking; tag = p.tag; length = p.length; step = CloseSet }; answer = Begun }
 
 abbrev pub ShutBegins : Side → Party → Type 0
-ShutBegins side p = sound side p ≡ true → p.step ≡ Rest → shutSpec side p ≡ record { party = record { own = p.own; closed = p.closed; counter = p.counter; blocking = p.blocking; tag = p.tag; length = p.length; step = ShutSet false }; answer = Begun }
+ShutBegins side p = sound side p ≡ true → p.step ≡ Rest → shut_spec side p ≡ record { party = record { own = p.own; closed = p.closed; counter = p.counter; blocking = p.blocking; tag = p.tag; length = p.length; step = ShutSet false }; answer = Begun }
 
 -- the claims, for a ring of any sizes that create accepts, either option, any start value, over any region
 module _ (region : List ℕ) (power slot : ℕ) (notfull : Bool) (start : ℕ) where
   abbrev pub Fresh : Type 0
-  Fresh = (createAnswer (length region) power slot ≡ Done 0 0) × (start < 2 ^ 64)
+  Fresh = (create_answer (length region) power slot ≡ Done 0 0) × (start < 2 ^ 64)
 
   abbrev pub reached : List Happening → World
   reached hs = run hs (opened (created region power slot notfull start))
@@ -101,25 +101,25 @@ module _ (region : List ℕ) (power slot : ℕ) (notfull : Bool) (start : ℕ) w
   abbrev pub DoneCarries : Type 0
   DoneCarries = (hs : List Happening) → AllTyped hs → (payload lent : List ℕ) (fault : Fault) (l t : ℕ)
       → takes (reached hs) Recorder payload lent fault ≡ true
-      → Delivering (partyIn (reached hs) Recorder).step
-      → (turnSpec Recorder (reached hs).region (partyIn (reached hs) Recorder) payload lent fault).answer ≡ Done l t
+      → Delivering (party_in (reached hs) Recorder).step
+      → (turn_spec Recorder (reached hs).region (party_in (reached hs) Recorder) payload lent fault).answer ≡ Done l t
       → Carries l t (happens (plays (turn_of Recorder fault) payload lent) (reached hs)).trace
 
   -- T3: a party asleep while the other is between calls or asleep has no room, nobody has shut down, and the other has not
   -- closed; so the two are never asleep together
   abbrev pub WithCause : Side → Type 0
   WithCause side = (hs : List Happening) → AllTyped hs → AllFair side hs (opened (created region power slot notfull start))
-      → (partyIn (reached hs) side).step ≡ Asleep → Quiet (other side) (reached hs)
-      → (room side (capacity power) (reached hs) ≡ 0) × ((down (reached hs) ≡ false) × (closedBit (other side) (reached hs) ≡ false))
+      → (party_in (reached hs) side).step ≡ Asleep → Quiet (other side) (reached hs)
+      → (room side (capacity power) (reached hs) ≡ 0) × ((down (reached hs) ≡ false) × (closed_bit (other side) (reached hs) ≡ false))
 
   abbrev pub NotBoth : Type 0
   NotBoth = (hs : List Happening) → AllTyped hs → ((side : Side) → AllFair side hs (opened (created region power slot notfull start)))
-      → (partyIn (reached hs) Sender).step ≡ Asleep → (partyIn (reached hs) Recorder).step ≡ Asleep → ⊥
+      → (party_in (reached hs) Sender).step ≡ Asleep → (party_in (reached hs) Recorder).step ≡ Asleep → ⊥
 
   -- the bell's premise: between its look at its bell and its wait a side's bell is raised at most twice, and once more for each
   -- close and shutdown that the other asks for. So where there are fewer than 2^32 − 2 of these, only the wakes are left to ask
   abbrev pub SeldomRung : Side → Type 0
-  SeldomRung side = (hs : List Happening) → AllTyped hs → holdsEpoch (partyIn (reached hs) side).step ≡ true
+  SeldomRung side = (hs : List Happening) → AllTyped hs → holds_epoch (party_in (reached hs) side).step ≡ true
       → rung side (reached hs) ≤ 2 + partings (other side) hs
 
   abbrev pub WakesAlone : Side → Type 0
@@ -128,16 +128,16 @@ module _ (region : List ℕ) (power slot : ℕ) (notfull : Bool) (start : ℕ) w
 
   -- T2: the other between calls or asleep and not moving, the party in a push or a pop or between calls, and willing ..
   abbrev pub Willed : Side → (hs ms : List Happening) → Type 0
-  Willed side hs ms = AllTyped (hs ++ ms) × (Quiet (other side) (reached hs) × ((inCall (partyIn (reached hs) side).step ≡ true) × Willing side ms (reached hs)))
+  Willed side hs ms = AllTyped (hs ++ ms) × (Quiet (other side) (reached hs) × ((in_call (party_in (reached hs) side).step ≡ true) × Willing side ms (reached hs)))
 
   -- the other anywhere in a call, and not moving: it may have died there
   abbrev pub Dead : Side → (hs ms : List Happening) → Type 0
-  Dead side hs ms = AllTyped (hs ++ ms) × ((inCall (partyIn (reached hs) side).step ≡ true) × Willing side ms (reached hs))
+  Dead side hs ms = AllTyped (hs ++ ms) × ((in_call (party_in (reached hs) side).step ≡ true) × Willing side ms (reached hs))
 
   -- .. in the end no room is left, and not because the other did anything
   abbrev pub Emptied : Side → (hs ms : List Happening) → Type 0
   Emptied side hs ms =
-      (room side (capacity power) (reached (hs ++ ms)) ≡ 0) × (notesOf (other side) (reached (hs ++ ms)).trace ≡ notesOf (other side) (reached hs).trace)
+      (room side (capacity power) (reached (hs ++ ms)) ≡ 0) × (notes_of (other side) (reached (hs ++ ms)).trace ≡ notes_of (other side) (reached hs).trace)
 
   -- after at least 4 times its room, and 3, of document 01's turns, whatever wakes and bells do ..
   abbrev pub BoundedTicks : Side → Type 0
@@ -160,7 +160,7 @@ module _ (region : List ℕ) (power slot : ℕ) (notfull : Bool) (start : ℕ) w
   -- willing stretches of every length exist from every state of the premises: the party attached and not closed
   abbrev pub Lasts : Side → Type 0
   Lasts side = (hs : List Happening) → AllTyped hs → AllFair side hs (opened (created region power slot notfull start))
-      → Quiet (other side) (reached hs) → inCall (partyIn (reached hs) side).step ≡ true → (partyIn (reached hs) side).own.attached ≡ true → (partyIn (reached hs) side).closed ≡ false → Underway side (reached hs)
+      → Quiet (other side) (reached hs) → in_call (party_in (reached hs) side).step ≡ true → (party_in (reached hs) side).own.attached ≡ true → (party_in (reached hs) side).closed ≡ false → Underway side (reached hs)
       → (n : ℕ) → (ms : List Happening) × (Going side hs ms × (n ≤ ticks ms (reached hs)))
 
   -- and the bound is reached: one turn fewer, and a note is left
@@ -171,72 +171,72 @@ module _ (region : List ℕ) (power slot : ℕ) (notfull : Bool) (start : ℕ) w
 
   -- T4: once the other has closed or anyone has shut down, and the other is between calls or asleep and not moving ..
   abbrev pub Stopped : Side → (hs : List Happening) → Type 0
-  Stopped side hs = Quiet (other side) (reached hs) × ((down (reached hs) || closedBit (other side) (reached hs)) ≡ true)
+  Stopped side hs = Quiet (other side) (reached hs) × ((down (reached hs) || closed_bit (other side) (reached hs)) ≡ true)
 
   -- .. a call under way has answered after a first part of at most so many turns of its own, whatever its waits do and whatever it asks meanwhile
   abbrev pub AtRest : (counted : Stance → Bool) → Side → (n : ℕ) → (hs ms : List Happening) → Type 0
   AtRest counted side n hs ms =
-      (first : List Happening) × ((rest : List Happening) × ((ms ≡ first ++ rest) × ((ticksBy counted first (reached hs) ≤ stopTurns side n) × ((partyIn (reached (hs ++ first)) side).step ≡ Rest))))
+      (first : List Happening) × ((rest : List Happening) × ((ms ≡ first ++ rest) × ((ticks_by counted first (reached hs) ≤ stop_turns side n) × ((party_in (reached (hs ++ first)) side).step ≡ Rest))))
 
   -- by document 01's turns, whatever wakes and bells do, and wherever the other stands: it may have died there; and, on a run that is fair
   -- to it, with those it sleeps through
   abbrev pub EndsTicks : Side → Type 0
-  EndsTicks side = (hs ms : List Happening) (n : ℕ) → AllTyped (hs ++ ms) → (down (reached hs) || closedBit (other side) (reached hs)) ≡ true → Follow side n (reached hs) → AllOwn side ms → stopTurns side n ≤ ticks ms (reached hs) → AtRest moves side n hs ms
+  EndsTicks side = (hs ms : List Happening) (n : ℕ) → AllTyped (hs ++ ms) → (down (reached hs) || closed_bit (other side) (reached hs)) ≡ true → Follow side n (reached hs) → AllOwn side ms → stop_turns side n ≤ ticks ms (reached hs) → AtRest moves side n hs ms
 
   abbrev pub Ends : Side → Type 0
   Ends side = (hs ms : List Happening) (n : ℕ) → AllTyped (hs ++ ms) → AllFair side (hs ++ ms) (opened (created region power slot notfull start))
-      → Stopped side hs → Follow side n (reached hs) → AllOwn side ms → stopTurns side n ≤ beats ms (reached hs) → AtRest calling side n hs ms
+      → Stopped side hs → Follow side n (reached hs) → AllOwn side ms → stop_turns side n ≤ beats ms (reached hs) → AtRest calling side n hs ms
 
   -- and no fewer: with no room, and where none of its turns fails, one at a spin that n follow has answered when it has taken these,
   -- 4 more, and the last look, which a shutdown spares a recorder
   abbrev pub StopsAfter : Side → Type 0
-  StopsAfter side = (hs ms : List Happening) (n : ℕ) → AllTyped hs → (down (reached hs) || closedBit (other side) (reached hs)) ≡ true
-      → room side (capacity power) (reached hs) ≡ 0 → (partyIn (reached hs) side).step ≡ Spin n → Turns side ms
-      → n + 4 + pick (down (reached hs)) 0 (lastLooks side) ≤ beats ms (reached hs)
+  StopsAfter side = (hs ms : List Happening) (n : ℕ) → AllTyped hs → (down (reached hs) || closed_bit (other side) (reached hs)) ≡ true
+      → room side (capacity power) (reached hs) ≡ 0 → (party_in (reached hs) side).step ≡ Spin n → Turns side ms
+      → n + 4 + pick (down (reached hs)) 0 (last_looks side) ≤ beats ms (reached hs)
       → (first : List Happening) × ((rest : List Happening) × ((ms ≡ first ++ rest)
-      × ((ticks first (reached hs) ≡ n + 4 + pick (down (reached hs)) 0 (lastLooks side)) × ((partyIn (reached (hs ++ first)) side).step ≡ Rest))))
+      × ((ticks first (reached hs) ≡ n + 4 + pick (down (reached hs)) 0 (last_looks side)) × ((party_in (reached (hs ++ first)) side).step ≡ Rest))))
 
   -- at a spin fewer follow than the record's count. So for a count c T4's number is c + 3, for a recorder c + 4, or 7
   abbrev pub SpinsWithin : Side → Type 0
-  SpinsWithin side = (hs : List Happening) (n : ℕ) → AllTyped hs → (partyIn (reached hs) side).step ≡ Spin n → n < (partyIn (reached hs) side).own.spins
+  SpinsWithin side = (hs : List Happening) (n : ℕ) → AllTyped hs → (party_in (reached hs) side).step ≡ Spin n → n < (party_in (reached hs) side).own.spins
 
   -- T9: a party alone in a blocking call with no room, nobody closed or shut down, no wait failing, falls asleep: it has taken so
   -- many turns of its own when it sleeps ..
   abbrev pub AsleepAfter : Side → (n : ℕ) → (hs ms : List Happening) → Type 0
   AsleepAfter side n hs ms =
-      (first : List Happening) × ((rest : List Happening) × ((ms ≡ first ++ rest) × ((ticks first (reached hs) ≡ n) × ((partyIn (reached (hs ++ first)) side).step ≡ Asleep))))
+      (first : List Happening) × ((rest : List Happening) × ((ms ≡ first ++ rest) × ((ticks first (reached hs) ≡ n) × ((party_in (reached (hs ++ first)) side).step ≡ Asleep))))
 
   -- .. which are at most 9 and its spin count: 6 and the count from its look, 9 and the count where its bell was raised after it
   -- read the epoch
   abbrev pub FallsAsleep : Side → Type 0
   FallsAsleep side = (hs : List Happening) → AllTyped hs
-      → room side (capacity power) (reached hs) ≡ 0 → down (reached hs) ≡ false → closedBit (other side) (reached hs) ≡ false
-      → (partyIn (reached hs) side).blocking ≡ true → inWait (partyIn (reached hs) side).step ≡ true
-      → (n : ℕ) × ((n ≤ 9 + (partyIn (reached hs) side).own.spins)
-      × (((partyIn (reached hs) side).step ≡ Look → n ≡ 6 + (partyIn (reached hs) side).own.spins)
-      × (((e : ℕ) → (partyIn (reached hs) side).step ≡ Again e → (leAt 4 (reached hs).region (bellAt (sleepBell side)) ≡ e → ⊥) → n ≡ 9 + (partyIn (reached hs) side).own.spins)
+      → room side (capacity power) (reached hs) ≡ 0 → down (reached hs) ≡ false → closed_bit (other side) (reached hs) ≡ false
+      → (party_in (reached hs) side).blocking ≡ true → in_wait (party_in (reached hs) side).step ≡ true
+      → (n : ℕ) × ((n ≤ 9 + (party_in (reached hs) side).own.spins)
+      × (((party_in (reached hs) side).step ≡ Look → n ≡ 6 + (party_in (reached hs) side).own.spins)
+      × (((e : ℕ) → (party_in (reached hs) side).step ≡ Again e → (le_at 4 (reached hs).region (bell_at (sleep_bell side)) ≡ e → ⊥) → n ≡ 9 + (party_in (reached hs) side).own.spins)
       × ((ms : List Happening) → Turns side ms → n ≤ beats ms (reached hs) → AsleepAfter side n hs ms))))
 
   -- .. and asleep, its turns change nothing, and answer 253 where they are not refused
   abbrev pub Dreams : Side → Type 0
-  Dreams side = (hs : List Happening) (payload lent : List ℕ) (fault : Fault) → (partyIn (reached hs) side).step ≡ Asleep
+  Dreams side = (hs : List Happening) (payload lent : List ℕ) (fault : Fault) → (party_in (reached hs) side).step ≡ Asleep
       → (happens (plays (turn_of side fault) payload lent) (reached hs) ≡ reached hs)
-      × (takes (reached hs) side payload lent fault ≡ true → (turnSpec side (reached hs).region (partyIn (reached hs) side) payload lent fault).answer ≡ Nothing)
+      × (takes (reached hs) side payload lent fault ≡ true → (turn_spec side (reached hs).region (party_in (reached hs) side) payload lent fault).answer ≡ Nothing)
 
   -- T10: where a pop under way answers 11, everything ever sent has been delivered: whatever happens then, no note is sent
   abbrev pub ClosedOverNone : Type 0
   ClosedOverNone = (hs ms : List Happening) → AllTyped (hs ++ ms) → (payload lent : List ℕ) (fault : Fault)
-      → (turnSpec Recorder (reached hs).region (partyIn (reached hs) Recorder) payload lent fault).answer ≡ Closed
+      → (turn_spec Recorder (reached hs).region (party_in (reached hs) Recorder) payload lent fault).answer ≡ Closed
       → (reached (hs ++ ms)).trace.sent ≡ (reached hs).trace.delivered
 
   -- it is told so: a blocking pop at its look, with nothing waiting, the sender closed and nobody shut down, answers 11 at its third
   -- turn, where none of its turns fails
   abbrev pub ToldClosed : Type 0
   ToldClosed = (hs ms : List Happening) → AllTyped hs
-      → waiting (reached hs) ≡ 0 → down (reached hs) ≡ false → closedBit Sender (reached hs) ≡ true
-      → (partyIn (reached hs) Recorder).step ≡ Look → (partyIn (reached hs) Recorder).blocking ≡ true → Turns Recorder ms → ticks ms (reached hs) ≡ 2
+      → waiting (reached hs) ≡ 0 → down (reached hs) ≡ false → closed_bit Sender (reached hs) ≡ true
+      → (party_in (reached hs) Recorder).step ≡ Look → (party_in (reached hs) Recorder).blocking ≡ true → Turns Recorder ms → ticks ms (reached hs) ≡ 2
       → (payload lent : List ℕ) → takes (reached (hs ++ ms)) Recorder payload lent Fine ≡ true
-      → (turnSpec Recorder (reached (hs ++ ms)).region (partyIn (reached (hs ++ ms)) Recorder) payload lent Fine).answer ≡ Closed
+      → (turn_spec Recorder (reached (hs ++ ms)).region (party_in (reached (hs ++ ms)) Recorder) payload lent Fine).answer ≡ Closed
 
   -- and whatever is answered 13 is answered so over no room: no note for the recorder, no free slot for the sender
   abbrev pub TimeoutOverNone : Side → Type 0
@@ -245,19 +245,19 @@ module _ (region : List ℕ) (power slot : ℕ) (notfull : Bool) (start : ℕ) w
 
   -- T8, on a run: whoever is attached has a sound record ..
   abbrev pub Sound : Side → Type 0
-  Sound side = (hs : List Happening) → AllTyped hs → (partyIn (reached hs) side).own.attached ≡ true → sound side (partyIn (reached hs) side) ≡ true
+  Sound side = (hs : List Happening) → AllTyped hs → (party_in (reached hs) side).own.attached ≡ true → sound side (party_in (reached hs) side) ≡ true
 
   -- .. with the ring's sizes and option and its own counter, as they stand in the region; attached and closed as its bits say: one's own
   -- close counts from the turn that sets its bit
   abbrev pub OwnCopy : Side → Type 0
   OwnCopy side = (hs : List Happening) → AllTyped hs
-      → ((partyIn (reached hs) side).own.attached ≡ bitOn (worth (attachMark side)) (leAt 4 (reached hs).region flagsAt))
-      × (((partyIn (reached hs) side).closed ≡ closedBit side (reached hs))
-      × ((partyIn (reached hs) side).own.attached ≡ true
-      → ((partyIn (reached hs) side).own ≡ record { side = side; attached = true; power = power; slot = slot; notfull = notfull; spins = (partyIn (reached hs) side).own.spins })
-      × ((partyIn (reached hs) side).counter ≡ leAt 8 (reached hs).region (counterAt side))))
+      → ((party_in (reached hs) side).own.attached ≡ bit_on (worth (attach_mark side)) (le_at 4 (reached hs).region flags_at))
+      × (((party_in (reached hs) side).closed ≡ closed_bit side (reached hs))
+      × ((party_in (reached hs) side).own.attached ≡ true
+      → ((party_in (reached hs) side).own ≡ record { side = side; attached = true; power = power; slot = slot; notfull = notfull; spins = (party_in (reached hs) side).own.spins })
+      × ((party_in (reached hs) side).counter ≡ le_at 8 (reached hs).region (counter_at side))))
 
   -- and its spin count is the one that its attach named, for good
   abbrev pub SpinsNamed : Side → Type 0
-  SpinsNamed side = (hs : List Happening) (spins : ℕ) → AllTyped hs → attachAnswer (reached hs).region side spins ≡ Done 0 0
-      → (ms : List Happening) → AllTyped ms → (partyIn (reached (hs ++ (attaches side spins ∷ ms))) side).own.spins ≡ spins
+  SpinsNamed side = (hs : List Happening) (spins : ℕ) → AllTyped hs → attach_answer (reached hs).region side spins ≡ Done 0 0
+      → (ms : List Happening) → AllTyped ms → (party_in (reached (hs ++ (attaches side spins ∷ ms))) side).own.spins ≡ spins

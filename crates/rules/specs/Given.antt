@@ -15,17 +15,17 @@ use Rattle.types.specs.declared.Step.{Step}
 use Rattle.types.specs.declared.Step.TheVariants.{Rest, Look, Copy, Publish, Check, Raise, Wake, Gate, Spin, Epoch, Again, GateAgain, Wait, Asleep, LastLook, CloseSet, CloseRaise, CloseWake, ShutSet, ShutRaiseNe, ShutWakeNe, ShutRaiseNf, ShutWakeNf}
 use Rattle.types.specs.declared.Answer.{Answer}
 use Rattle.types.specs.declared.Answer.TheVariants.{Done, CorruptIndices, CorruptSlot, Full, Empty, Closed, Shutdown, Timeout, OutputTooSmall, Syscall, PayloadTooLong, NotFullOff, BadCall, Nothing, Begun, GoesOn}
-use Rattle.layout.specs.Limits.{capacity, payloadCapacity}
-use Rattle.layout.specs.Create.{createChecks, createAnswer}
-use Rattle.layout.specs.Attach.{attachChecks, attachReply}
+use Rattle.layout.specs.Limits.{capacity, payload_capacity}
+use Rattle.layout.specs.Create.{create_checks, create_answer}
+use Rattle.layout.specs.Attach.{attach_checks, attach_reply}
 use Rattle.layout.specs.Slots.{head_of}
-use Rattle.rules.specs.Sides.{ringBell, sleepBell, rings, waitOp, wakeOp}
-use Rattle.rules.specs.Looks.{roomOf, roomHere, wasBlocked, doorOf, fitOf, napOf}
-use Rattle.rules.specs.Take.{stanceOf}
-use Rattle.rules.specs.Next.{nextSpec}
+use Rattle.rules.specs.Sides.{ring_bell, sleep_bell, rings, wait_op, wake_op}
+use Rattle.rules.specs.Looks.{room_of, room_here, was_blocked, door_of, fit_of, nap_of}
+use Rattle.rules.specs.Take.{stance_of}
+use Rattle.rules.specs.Next.{next_spec}
 use Rattle.rules.specs.Access.{value_of}
-use Rattle.rules.specs.Calls.{isSleeping, sound, ready, pushSpec, popSpec, closeSpec, shutSpec, spuriousSpec, timeoutSpec}
-use Rattle.rules.specs.Turn.{errorOf, taken, turnSpec}
+use Rattle.rules.specs.Calls.{is_sleeping, sound, ready, push_spec, pop_spec, close_spec, shut_spec, spurious_spec, timeout_spec}
+use Rattle.rules.specs.Turn.{error_of, taken, turn_spec}
 
 -- the answer of a list of checks: the first that fails refuses, and where none fails it is done
 pub data Checked : List Test → Answer → Type 0 where
@@ -42,27 +42,27 @@ pub data Looking : Step → Type 0 where
 
 -- 255: where a call runs on, and the step that it then stands at; v and e as below
 pub data RunsOn (p : Party) (v e : ℕ) : Step → Type 0 where
-  free : Looking p.step → roomHere p.own p.counter v ≡ Free → RunsOn p v e Copy
+  free : Looking p.step → room_here p.own p.counter v ≡ Free → RunsOn p v e Copy
   -- 7 begins here alone: more used than there are slots
-  too_many : Looking p.step → roomHere p.own p.counter v ≡ Corrupt → RunsOn p v e (ShutSet true)
-  no_room : p.step ≡ Look → p.blocking ≡ true → roomHere p.own p.counter v ≡ Blocked → RunsOn p v e Gate
-  spun : {left : ℕ} → p.step ≡ Spin (suc left) → roomHere p.own p.counter v ≡ Blocked → RunsOn p v e (Spin left)
-  spun-last : p.step ≡ Spin 0 → roomHere p.own p.counter v ≡ Blocked → RunsOn p v e Epoch
-  none-again : {epoch : ℕ} → p.step ≡ Again epoch → roomHere p.own p.counter v ≡ Blocked → RunsOn p v e (GateAgain epoch)
+  too_many : Looking p.step → room_here p.own p.counter v ≡ Corrupt → RunsOn p v e (ShutSet true)
+  no_room : p.step ≡ Look → p.blocking ≡ true → room_here p.own p.counter v ≡ Blocked → RunsOn p v e Gate
+  spun : {left : ℕ} → p.step ≡ Spin (suc left) → room_here p.own p.counter v ≡ Blocked → RunsOn p v e (Spin left)
+  spun-last : p.step ≡ Spin 0 → room_here p.own p.counter v ≡ Blocked → RunsOn p v e Epoch
+  none-again : {epoch : ℕ} → p.step ≡ Again epoch → room_here p.own p.counter v ≡ Blocked → RunsOn p v e (GateAgain epoch)
   written : p.step ≡ Copy → p.own.side ≡ Sender → RunsOn p v e (Publish 0 0)
-  read : p.step ≡ Copy → p.own.side ≡ Recorder → fitOf (head_of v) (payloadCapacity p.own.slot) p.length ≡ Fits → RunsOn p v e (Publish (head_of v).length (head_of v).tag)
+  read : p.step ≡ Copy → p.own.side ≡ Recorder → fit_of (head_of v) (payload_capacity p.own.slot) p.length ≡ Fits → RunsOn p v e (Publish (head_of v).length (head_of v).tag)
   stored : {l t : ℕ} → p.step ≡ Publish l t → rings p.own.side p.own.notfull ≡ true → RunsOn p v e (Check l t)
-  was-blocked : {l t : ℕ} → p.step ≡ Check l t → wasBlocked p.own.side (capacity p.own.power) p.counter v ≡ true → RunsOn p v e (Raise l t)
+  was-blocked : {l t : ℕ} → p.step ≡ Check l t → was_blocked p.own.side (capacity p.own.power) p.counter v ≡ true → RunsOn p v e (Raise l t)
   raised : {l t : ℕ} → p.step ≡ Raise l t → RunsOn p v e (Wake l t)
-  open-door : p.step ≡ Gate → p.own.spins ≡ 0 → doorOf p.own.side v ≡ Open → RunsOn p v e Epoch
-  to-spins : {left : ℕ} → p.step ≡ Gate → p.own.spins ≡ suc left → doorOf p.own.side v ≡ Open → RunsOn p v e (Spin left)
-  sender-left : p.step ≡ Gate → p.own.side ≡ Recorder → doorOf Recorder v ≡ Left → RunsOn p v e (LastLook false)
+  open-door : p.step ≡ Gate → p.own.spins ≡ 0 → door_of p.own.side v ≡ Open → RunsOn p v e Epoch
+  to-spins : {left : ℕ} → p.step ≡ Gate → p.own.spins ≡ suc left → door_of p.own.side v ≡ Open → RunsOn p v e (Spin left)
+  sender-left : p.step ≡ Gate → p.own.side ≡ Recorder → door_of Recorder v ≡ Left → RunsOn p v e (LastLook false)
   bell-read : p.step ≡ Epoch → RunsOn p v e (Again (v % 2 ^ 32))
-  open-again : {epoch : ℕ} → p.step ≡ GateAgain epoch → doorOf p.own.side v ≡ Open → RunsOn p v e (Wait epoch)
-  sender-left-again : {epoch : ℕ} → p.step ≡ GateAgain epoch → p.own.side ≡ Recorder → doorOf Recorder v ≡ Left → RunsOn p v e (LastLook false)
-  falls-asleep : {epoch : ℕ} → p.step ≡ Wait epoch → napOf e (eqb v epoch) ≡ Sleeps → RunsOn p v e Asleep
-  returned : {epoch : ℕ} → p.step ≡ Wait epoch → napOf e (eqb v epoch) ≡ Returns → RunsOn p v e Look
-  time-over : {epoch : ℕ} → p.step ≡ Wait epoch → napOf e (eqb v epoch) ≡ TimedOut → RunsOn p v e (LastLook true)
+  open-again : {epoch : ℕ} → p.step ≡ GateAgain epoch → door_of p.own.side v ≡ Open → RunsOn p v e (Wait epoch)
+  sender-left-again : {epoch : ℕ} → p.step ≡ GateAgain epoch → p.own.side ≡ Recorder → door_of Recorder v ≡ Left → RunsOn p v e (LastLook false)
+  falls-asleep : {epoch : ℕ} → p.step ≡ Wait epoch → nap_of e (eqb v epoch) ≡ Sleeps → RunsOn p v e Asleep
+  returned : {epoch : ℕ} → p.step ≡ Wait epoch → nap_of e (eqb v epoch) ≡ Returns → RunsOn p v e Look
+  time-over : {epoch : ℕ} → p.step ≡ Wait epoch → nap_of e (eqb v epoch) ≡ TimedOut → RunsOn p v e (LastLook true)
   close-set : p.step ≡ CloseSet → rings p.own.side p.own.notfull ≡ true → RunsOn p v e CloseRaise
   close-raised : p.step ≡ CloseRaise → RunsOn p v e CloseWake
   shut-set : {c : Bool} → p.step ≡ ShutSet c → RunsOn p v e (ShutRaiseNe c)
@@ -74,7 +74,7 @@ pub data RunsOn (p : Party) (v e : ℕ) : Step → Type 0 where
 pub data EndsWith (p : Party) (v e : ℕ) : Answer → Type 0 where
   -- 0
   published : {l t : ℕ} → p.step ≡ Publish l t → rings p.own.side p.own.notfull ≡ false → EndsWith p v e (Done l t)
-  checked : {l t : ℕ} → p.step ≡ Check l t → wasBlocked p.own.side (capacity p.own.power) p.counter v ≡ false → EndsWith p v e (Done l t)
+  checked : {l t : ℕ} → p.step ≡ Check l t → was_blocked p.own.side (capacity p.own.power) p.counter v ≡ false → EndsWith p v e (Done l t)
   woke : {l t : ℕ} → p.step ≡ Wake l t → eqb e 0 ≡ true → EndsWith p v e (Done l t)
   closed-alone : p.step ≡ CloseSet → rings p.own.side p.own.notfull ≡ false → EndsWith p v e (Done 0 0)
   closed : p.step ≡ CloseWake → eqb e 0 ≡ true → EndsWith p v e (Done 0 0)
@@ -82,25 +82,25 @@ pub data EndsWith (p : Party) (v e : ℕ) : Answer → Type 0 where
   -- 7, at the last turn of a shutdown that `too_many` began
   corrupt : {first : ℕ} → p.step ≡ ShutWakeNf true first → EndsWith p v e CorruptIndices
   -- 8, 15
-  bad-slot : p.step ≡ Copy → p.own.side ≡ Recorder → fitOf (head_of v) (payloadCapacity p.own.slot) p.length ≡ Bad → EndsWith p v e CorruptSlot
-  too_small : p.step ≡ Copy → p.own.side ≡ Recorder → fitOf (head_of v) (payloadCapacity p.own.slot) p.length ≡ Small → EndsWith p v e (OutputTooSmall (head_of v).length)
+  bad-slot : p.step ≡ Copy → p.own.side ≡ Recorder → fit_of (head_of v) (payload_capacity p.own.slot) p.length ≡ Bad → EndsWith p v e CorruptSlot
+  too_small : p.step ≡ Copy → p.own.side ≡ Recorder → fit_of (head_of v) (payload_capacity p.own.slot) p.length ≡ Small → EndsWith p v e (OutputTooSmall (head_of v).length)
   -- 9, 10
-  full : p.step ≡ Look → p.own.side ≡ Sender → p.blocking ≡ false → roomOf Sender (capacity p.own.power) p.counter v ≡ Blocked → EndsWith p v e Full
-  empty : p.step ≡ Look → p.own.side ≡ Recorder → p.blocking ≡ false → roomOf Recorder (capacity p.own.power) p.counter v ≡ Blocked → EndsWith p v e Empty
+  full : p.step ≡ Look → p.own.side ≡ Sender → p.blocking ≡ false → room_of Sender (capacity p.own.power) p.counter v ≡ Blocked → EndsWith p v e Full
+  empty : p.step ≡ Look → p.own.side ≡ Recorder → p.blocking ≡ false → room_of Recorder (capacity p.own.power) p.counter v ≡ Blocked → EndsWith p v e Empty
   -- 11, 12
-  left : p.step ≡ Gate → p.own.side ≡ Sender → doorOf Sender v ≡ Left → EndsWith p v e Closed
-  left-again : {epoch : ℕ} → p.step ≡ GateAgain epoch → p.own.side ≡ Sender → doorOf Sender v ≡ Left → EndsWith p v e Closed
-  none_left : p.step ≡ LastLook false → roomHere p.own p.counter v ≡ Blocked → EndsWith p v e Closed
-  down : p.step ≡ Gate → doorOf p.own.side v ≡ Shut → EndsWith p v e Shutdown
-  down-again : {epoch : ℕ} → p.step ≡ GateAgain epoch → doorOf p.own.side v ≡ Shut → EndsWith p v e Shutdown
+  left : p.step ≡ Gate → p.own.side ≡ Sender → door_of Sender v ≡ Left → EndsWith p v e Closed
+  left-again : {epoch : ℕ} → p.step ≡ GateAgain epoch → p.own.side ≡ Sender → door_of Sender v ≡ Left → EndsWith p v e Closed
+  none_left : p.step ≡ LastLook false → room_here p.own p.counter v ≡ Blocked → EndsWith p v e Closed
+  down : p.step ≡ Gate → door_of p.own.side v ≡ Shut → EndsWith p v e Shutdown
+  down-again : {epoch : ℕ} → p.step ≡ GateAgain epoch → door_of p.own.side v ≡ Shut → EndsWith p v e Shutdown
   -- 13
-  timed-out : p.step ≡ LastLook true → roomHere p.own p.counter v ≡ Blocked → EndsWith p v e Timeout
+  timed-out : p.step ≡ LastLook true → room_here p.own p.counter v ≡ Blocked → EndsWith p v e Timeout
   -- 17: its operation and its error
-  wake-failed : {l t : ℕ} → p.step ≡ Wake l t → eqb e 0 ≡ false → EndsWith p v e (Syscall (wakeOp (ringBell p.own.side)) e)
-  close-failed : p.step ≡ CloseWake → eqb e 0 ≡ false → EndsWith p v e (Syscall (wakeOp (ringBell p.own.side)) e)
-  wait-failed : {epoch : ℕ} → p.step ≡ Wait epoch → napOf e (eqb v epoch) ≡ Fails → EndsWith p v e (Syscall (waitOp (sleepBell p.own.side)) e)
-  shut-failed : {first : ℕ} → p.step ≡ ShutWakeNf false first → eqb first 0 ≡ false → EndsWith p v e (Syscall (wakeOp NotEmpty) first)
-  shut-failed-last : {first : ℕ} → p.step ≡ ShutWakeNf false first → eqb first 0 ≡ true → eqb e 0 ≡ false → EndsWith p v e (Syscall (wakeOp NotFull) e)
+  wake-failed : {l t : ℕ} → p.step ≡ Wake l t → eqb e 0 ≡ false → EndsWith p v e (Syscall (wake_op (ring_bell p.own.side)) e)
+  close-failed : p.step ≡ CloseWake → eqb e 0 ≡ false → EndsWith p v e (Syscall (wake_op (ring_bell p.own.side)) e)
+  wait-failed : {epoch : ℕ} → p.step ≡ Wait epoch → nap_of e (eqb v epoch) ≡ Fails → EndsWith p v e (Syscall (wait_op (sleep_bell p.own.side)) e)
+  shut-failed : {first : ℕ} → p.step ≡ ShutWakeNf false first → eqb first 0 ≡ false → EndsWith p v e (Syscall (wake_op NotEmpty) first)
+  shut-failed-last : {first : ℕ} → p.step ≡ ShutWakeNf false first → eqb first 0 ≡ true → eqb e 0 ≡ false → EndsWith p v e (Syscall (wake_op NotFull) e)
   -- 253
   resting : p.step ≡ Rest → EndsWith p v e Nothing
   asleep : p.step ≡ Asleep → EndsWith p v e Nothing
@@ -118,8 +118,8 @@ pub data Ask : Type 0 where
 
 pub data Given : Ask → Answer → Type 0 where
   -- 0, 4, 5, 6; and 0 to 6, 14, 16, 20
-  created : {r : List ℕ} {power slot : ℕ} {notfull : Bool} {start : ℕ} {x : Answer} → Checked (createChecks (length r) power slot) x → Given (create r power slot notfull start) x
-  attached : {r : List ℕ} {side : Side} {spins : ℕ} {x : Answer} → Checked (attachChecks r side spins) x → Given (attach r side spins) x
+  created : {r : List ℕ} {power slot : ℕ} {notfull : Bool} {start : ℕ} {x : Answer} → Checked (create_checks (length r) power slot) x → Given (create r power slot notfull start) x
+  attached : {r : List ℕ} {side : Side} {spins : ℕ} {x : Answer} → Checked (attach_checks r side spins) x → Given (attach r side spins) x
   -- 20, first of all
   push-bad : {p : Party} {b : Bool} {t l : ℕ} → ready Sender p ≡ false → Given (push p b t l) BadCall
   pop-bad : {p : Party} {b : Bool} {l : ℕ} → ready Recorder p ≡ false → Given (pop p b l) BadCall
@@ -133,34 +133,34 @@ pub data Given : Ask → Answer → Type 0 where
   pop-closed : {p : Party} {b : Bool} {l : ℕ} → ready Recorder p ≡ true → p.closed ≡ true → Given (pop p b l) Closed
   close-closed : {side : Side} {p : Party} → ready side p ≡ true → p.closed ≡ true → Given (close side p) Closed
   push-off : {p : Party} {b : Bool} {t l : ℕ} → ready Sender p ≡ true → p.closed ≡ false → (b && not p.own.notfull) ≡ true → Given (push p b t l) NotFullOff
-  push-long : {p : Party} {b : Bool} {t l : ℕ} → ready Sender p ≡ true → p.closed ≡ false → (b && not p.own.notfull) ≡ false → leb l (payloadCapacity p.own.slot) ≡ false → Given (push p b t l) PayloadTooLong
+  push-long : {p : Party} {b : Bool} {t l : ℕ} → ready Sender p ≡ true → p.closed ≡ false → (b && not p.own.notfull) ≡ false → leb l (payload_capacity p.own.slot) ≡ false → Given (push p b t l) PayloadTooLong
   -- 254
-  push_begun : {p : Party} {b : Bool} {t l : ℕ} → ready Sender p ≡ true → p.closed ≡ false → (b && not p.own.notfull) ≡ false → leb l (payloadCapacity p.own.slot) ≡ true → Given (push p b t l) Begun
+  push_begun : {p : Party} {b : Bool} {t l : ℕ} → ready Sender p ≡ true → p.closed ≡ false → (b && not p.own.notfull) ≡ false → leb l (payload_capacity p.own.slot) ≡ true → Given (push p b t l) Begun
   pop-begun : {p : Party} {b : Bool} {l : ℕ} → ready Recorder p ≡ true → p.closed ≡ false → Given (pop p b l) Begun
   close-begun : {side : Side} {p : Party} → ready side p ≡ true → p.closed ≡ false → Given (close side p) Begun
   shutdown-begun : {side : Side} {p : Party} → ready side p ≡ true → Given (shutdown side p) Begun
   -- 253, or the sleeper's 255
-  spurious-idle : {side : Side} {p : Party} → sound side p ≡ true → isSleeping (stanceOf p.step) ≡ false → Given (spurious side p) Nothing
-  timeout-idle : {side : Side} {p : Party} → sound side p ≡ true → isSleeping (stanceOf p.step) ≡ false → Given (timeout side p) Nothing
-  spurious-taken : {side : Side} {p : Party} → sound side p ≡ true → isSleeping (stanceOf p.step) ≡ true → Given (spurious side p) GoesOn
-  timeout-taken : {side : Side} {p : Party} → sound side p ≡ true → isSleeping (stanceOf p.step) ≡ true → Given (timeout side p) GoesOn
+  spurious-idle : {side : Side} {p : Party} → sound side p ≡ true → is_sleeping (stance_of p.step) ≡ false → Given (spurious side p) Nothing
+  timeout-idle : {side : Side} {p : Party} → sound side p ≡ true → is_sleeping (stance_of p.step) ≡ false → Given (timeout side p) Nothing
+  spurious-taken : {side : Side} {p : Party} → sound side p ≡ true → is_sleeping (stance_of p.step) ≡ true → Given (spurious side p) GoesOn
+  timeout-taken : {side : Side} {p : Party} → sound side p ≡ true → is_sleeping (stance_of p.step) ≡ true → Given (timeout side p) GoesOn
   -- the rest, by the step
   turn-taken : {side : Side} {r : List ℕ} {p : Party} {i o : List ℕ} {f : Fault} {x : Answer}
-      → taken side r p i o f ≡ true → EndsWith p (value_of r p.own (nextSpec p)) (errorOf f) x → Given (turn side r p i o f) x
+      → taken side r p i o f ≡ true → EndsWith p (value_of r p.own (next_spec p)) (error_of f) x → Given (turn side r p i o f) x
 
 -- what is answered
 abbrev pub answered : Ask → Answer
-answered (create r power slot notfull start) = createAnswer (length r) power slot
-answered (attach r side spins) = (attachReply r side spins).answer
-answered (push p blocking tag length) = (pushSpec p blocking tag length).answer
-answered (pop p blocking length) = (popSpec p blocking length).answer
-answered (close side p) = (closeSpec side p).answer
-answered (shutdown side p) = (shutSpec side p).answer
-answered (spurious side p) = (spuriousSpec side p).answer
-answered (timeout side p) = (timeoutSpec side p).answer
-answered (turn side r p payload buffer fault) = (turnSpec side r p payload buffer fault).answer
+answered (create r power slot notfull start) = create_answer (length r) power slot
+answered (attach r side spins) = (attach_reply r side spins).answer
+answered (push p blocking tag length) = (push_spec p blocking tag length).answer
+answered (pop p blocking length) = (pop_spec p blocking length).answer
+answered (close side p) = (close_spec side p).answer
+answered (shutdown side p) = (shut_spec side p).answer
+answered (spurious side p) = (spurious_spec side p).answer
+answered (timeout side p) = (timeout_spec side p).answer
+answered (turn side r p payload buffer fault) = (turn_spec side r p payload buffer fault).answer
 
 -- and where a turn runs on, its party stands at the step of its row
 abbrev pub StandsThere : Type 0
 StandsThere = (side : Side) (r : List ℕ) (p : Party) (payload buffer : List ℕ) (fault : Fault) (s : Step) → taken side r p payload buffer fault ≡ true
-    → RunsOn p (value_of r p.own (nextSpec p)) (errorOf fault) s → (turnSpec side r p payload buffer fault).party.step ≡ s
+    → RunsOn p (value_of r p.own (next_spec p)) (error_of fault) s → (turn_spec side r p payload buffer fault).party.step ≡ s

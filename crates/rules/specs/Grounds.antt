@@ -7,7 +7,7 @@ use Rattle.types.specs.declared.Fault.{Fault}
 use Rattle.types.specs.declared.Fault.TheVariants.{Error}
 use Rattle.types.specs.declared.Step.TheVariants.{Rest, Copy}
 use Rattle.types.specs.declared.Answer.TheVariants.{BadCall}
-use Rattle.layout.specs.Limits.{leastPower, mostPower, leastSlot, mostSlot, slotStep, mostSpins, payloadCapacity, totalBytes}
+use Rattle.layout.specs.Limits.{least_power, most_power, least_slot, most_slot, slot_step, most_spins, payload_capacity, total_bytes}
 use Rattle.rules.specs.Sides.{other}
 use Rattle.rules.specs.Given.{Ask, create, attach, push, pop, close, shutdown, spurious, timeout, turn, answered}
 use Rattle.rules.specs.Asked.{lent_of}
@@ -16,13 +16,13 @@ use Rattle.rules.specs.Asked.{lent_of}
 pub data Unsound (side : Side) (p : Party) : Type 0 where
   not-attached : p.own.attached ≡ false → Unsound side p
   of_other : p.own.side ≡ other side → Unsound side p
-  power-low : p.own.power < leastPower → Unsound side p
-  power-high : mostPower < p.own.power → Unsound side p
-  slot-low : p.own.slot < leastSlot → Unsound side p
-  slot-high : mostSlot < p.own.slot → Unsound side p
-  slot-uneven : (p.own.slot % slotStep ≡ 0 → ⊥) → Unsound side p
-  spins-high : mostSpins < p.own.spins → Unsound side p
-  push-long : side ≡ Sender → payloadCapacity p.own.slot < p.length → Unsound side p
+  power-low : p.own.power < least_power → Unsound side p
+  power-high : most_power < p.own.power → Unsound side p
+  slot-low : p.own.slot < least_slot → Unsound side p
+  slot-high : most_slot < p.own.slot → Unsound side p
+  slot-uneven : (p.own.slot % slot_step ≡ 0 → ⊥) → Unsound side p
+  spins-high : most_spins < p.own.spins → Unsound side p
+  push-long : side ≡ Sender → payload_capacity p.own.slot < p.length → Unsound side p
 
 -- at a begin also: a call runs
 pub data Unready (side : Side) (p : Party) : Type 0 where
@@ -32,13 +32,13 @@ pub data Unready (side : Side) (p : Party) : Type 0 where
 -- at a turn also: a region of another length, a copy lent another length than its call named, a failure announced as 0
 pub data Untaken (side : Side) (r : List ℕ) (p : Party) (payload buffer : List ℕ) (fault : Fault) : Type 0 where
   untaken : Unsound side p → Untaken side r p payload buffer fault
-  region-length : (length r ≡ totalBytes p.own.power p.own.slot → ⊥) → Untaken side r p payload buffer fault
+  region-length : (length r ≡ total_bytes p.own.power p.own.slot → ⊥) → Untaken side r p payload buffer fault
   copy-lent : p.step ≡ Copy → (length (lent_of side payload buffer) ≡ p.length → ⊥) → Untaken side r p payload buffer fault
   error-0 : fault ≡ Error 0 → Untaken side r p payload buffer fault
 
 abbrev pub Grounds : Ask → Type 0
 Grounds (create r power slot notfull start) = ⊥
-Grounds (attach r side spins) = mostSpins < spins
+Grounds (attach r side spins) = most_spins < spins
 Grounds (push p blocking tag length) = Unready Sender p
 Grounds (pop p blocking length) = Unready Recorder p
 Grounds (close side p) = Unready side p

@@ -8,36 +8,36 @@ use Rattle.types.specs.declared.Step.TheVariants.{Rest}
 use Rattle.types.specs.declared.Woke.TheVariants.{Nobody}
 use Rattle.types.specs.declared.Answer.{Answer}
 use Rattle.types.specs.declared.Answer.TheVariants.{Done, InvalidMagic, UnsupportedVersion, InvalidHeaderSize, InvalidLayout, InvalidCapacity, InvalidSlotSize, CorruptIndices, CorruptSlot, Full, Empty, Closed, Shutdown, Timeout, WouldBlock, OutputTooSmall, AlreadyAttached, Syscall, PayloadTooLong, NotFullOff, BadCall, Nothing, Begun, GoesOn}
-use Rattle.layout.specs.Create.{createLeaves}
-use Rattle.layout.specs.Attach.{unattached, attachReply, attachLeaves}
-use Rattle.rules.specs.Calls.{pushSpec, popSpec, closeSpec, shutSpec, spuriousSpec, timeoutSpec}
-use Rattle.rules.specs.Turn.{turnSpec, turnLeaves, turnBuffer}
-use Rattle.rules.specs.Bench.{partyOf, played, playedLeaves, playedBuffer}
+use Rattle.layout.specs.Create.{create_leaves}
+use Rattle.layout.specs.Attach.{unattached, attach_reply, attach_leaves}
+use Rattle.rules.specs.Calls.{push_spec, pop_spec, close_spec, shut_spec, spurious_spec, timeout_spec}
+use Rattle.rules.specs.Turn.{turn_spec, turn_leaves, turn_buffer}
+use Rattle.rules.specs.Bench.{party_of, played, played_leaves, played_buffer}
 use Rattle.rules.specs.Given.{Ask, create, attach, push, pop, close, shutdown, spurious, timeout, turn, answered}
 
 -- no byte of the region or of a buffer changes; most calls are lent none
 abbrev pub BytesKept : Ask → Type 0
-BytesKept (create r power slot notfull start) = createLeaves r power slot notfull start ≡ r
-BytesKept (attach r side spins) = attachLeaves r side spins ≡ r
+BytesKept (create r power slot notfull start) = create_leaves r power slot notfull start ≡ r
+BytesKept (attach r side spins) = attach_leaves r side spins ≡ r
 BytesKept (push p blocking tag length) = Unit
 BytesKept (pop p blocking length) = Unit
 BytesKept (close side p) = Unit
 BytesKept (shutdown side p) = Unit
 BytesKept (spurious side p) = Unit
 BytesKept (timeout side p) = Unit
-BytesKept (turn side r p i o f) = (turnLeaves side r p i o f ≡ r) × (turnBuffer side r p i o f ≡ o)
+BytesKept (turn side r p i o f) = (turn_leaves side r p i o f ≡ r) × (turn_buffer side r p i o f ≡ o)
 
 -- the record is the one handed in, and a turn woke nobody; a refused attach gives back that of a party not attached
 abbrev pub RecordKept : Ask → Type 0
 RecordKept (create r power slot notfull start) = Unit
-RecordKept (attach r side spins) = (attachReply r side spins).party ≡ unattached side
-RecordKept (push p blocking tag length) = (pushSpec p blocking tag length).party ≡ p
-RecordKept (pop p blocking length) = (popSpec p blocking length).party ≡ p
-RecordKept (close side p) = (closeSpec side p).party ≡ p
-RecordKept (shutdown side p) = (shutSpec side p).party ≡ p
-RecordKept (spurious side p) = (spuriousSpec side p).party ≡ p
-RecordKept (timeout side p) = (timeoutSpec side p).party ≡ p
-RecordKept (turn side r p i o f) = ((turnSpec side r p i o f).party ≡ p) × ((turnSpec side r p i o f).woke ≡ Nobody)
+RecordKept (attach r side spins) = (attach_reply r side spins).party ≡ unattached side
+RecordKept (push p blocking tag length) = (push_spec p blocking tag length).party ≡ p
+RecordKept (pop p blocking length) = (pop_spec p blocking length).party ≡ p
+RecordKept (close side p) = (close_spec side p).party ≡ p
+RecordKept (shutdown side p) = (shut_spec side p).party ≡ p
+RecordKept (spurious side p) = (spurious_spec side p).party ≡ p
+RecordKept (timeout side p) = (timeout_spec side p).party ≡ p
+RecordKept (turn side r p i o f) = ((turn_spec side r p i o f).party ≡ p) × ((turn_spec side r p i o f).woke ≡ Nobody)
 
 -- nothing changes anywhere
 abbrev pub Unchanged : Ask → Type 0
@@ -45,14 +45,14 @@ Unchanged a = BytesKept a × RecordKept a
 
 abbrev pub AtRest : Ask → Type 0
 AtRest (create r power slot notfull start) = Unit
-AtRest (attach r side spins) = (attachReply r side spins).party.step ≡ Rest
-AtRest (push p blocking tag length) = (pushSpec p blocking tag length).party.step ≡ Rest
-AtRest (pop p blocking length) = (popSpec p blocking length).party.step ≡ Rest
-AtRest (close side p) = (closeSpec side p).party.step ≡ Rest
-AtRest (shutdown side p) = (shutSpec side p).party.step ≡ Rest
-AtRest (spurious side p) = (spuriousSpec side p).party.step ≡ Rest
-AtRest (timeout side p) = (timeoutSpec side p).party.step ≡ Rest
-AtRest (turn side r p i o f) = (turnSpec side r p i o f).party.step ≡ Rest
+AtRest (attach r side spins) = (attach_reply r side spins).party.step ≡ Rest
+AtRest (push p blocking tag length) = (push_spec p blocking tag length).party.step ≡ Rest
+AtRest (pop p blocking length) = (pop_spec p blocking length).party.step ≡ Rest
+AtRest (close side p) = (close_spec side p).party.step ≡ Rest
+AtRest (shutdown side p) = (shut_spec side p).party.step ≡ Rest
+AtRest (spurious side p) = (spurious_spec side p).party.step ≡ Rest
+AtRest (timeout side p) = (timeout_spec side p).party.step ≡ Rest
+AtRest (turn side r p i o f) = (turn_spec side r p i o f).party.step ≡ Rest
 
 abbrev pub Leaves : Answer → Ask → Type 0
 Leaves (Done l t) a = AtRest a
@@ -85,15 +85,15 @@ abbrev pub LeavesAll : Type 0
 LeavesAll = (a : Ask) → Leaves (answered a) a
 
 -- what an event asks of a bench
-abbrev pub askOf : (region : List ℕ) → Bench → (payload buffer : List ℕ) → Event → Ask
-askOf r b i o (Turn side) = turn side r (partyOf b side) i o Fine
-askOf r b i o (Failing side error) = turn side r (partyOf b side) i o (Error error)
-askOf r b i o (Spurious side) = spurious side (partyOf b side)
-askOf r b i o (TimeOut side) = timeout side (partyOf b side)
-askOf r b i o (Push blocking tag length) = push b.sender blocking tag length
-askOf r b i o (Pop blocking length) = pop b.recorder blocking length
-askOf r b i o (Close side) = close side (partyOf b side)
-askOf r b i o (Shut side) = shutdown side (partyOf b side)
+abbrev pub ask_of : (region : List ℕ) → Bench → (payload buffer : List ℕ) → Event → Ask
+ask_of r b i o (Turn side) = turn side r (party_of b side) i o Fine
+ask_of r b i o (Failing side error) = turn side r (party_of b side) i o (Error error)
+ask_of r b i o (Spurious side) = spurious side (party_of b side)
+ask_of r b i o (TimeOut side) = timeout side (party_of b side)
+ask_of r b i o (Push blocking tag length) = push b.sender blocking tag length
+ask_of r b i o (Pop blocking length) = pop b.recorder blocking length
+ask_of r b i o (Close side) = close side (party_of b side)
+ask_of r b i o (Shut side) = shutdown side (party_of b side)
 
 -- what that leaves of the region and of the buffer: a turn alone changes any byte
 abbrev pub AsAsk : (region buffer : List ℕ) → (leaves given : List ℕ) → Ask → Type 0
@@ -105,10 +105,10 @@ AsAsk r o leaves given (close side p) = (leaves ≡ r) × (given ≡ o)
 AsAsk r o leaves given (shutdown side p) = (leaves ≡ r) × (given ≡ o)
 AsAsk r o leaves given (spurious side p) = (leaves ≡ r) × (given ≡ o)
 AsAsk r o leaves given (timeout side p) = (leaves ≡ r) × (given ≡ o)
-AsAsk r o leaves given (turn side s p i b f) = (leaves ≡ turnLeaves side s p i b f) × (given ≡ turnBuffer side s p i b f)
+AsAsk r o leaves given (turn side s p i b f) = (leaves ≡ turn_leaves side s p i b f) × (given ≡ turn_buffer side s p i b f)
 
 -- so the table and this law hold of what a bench plays
 abbrev pub BenchAsks : Type 0
 BenchAsks = (r : List ℕ) (b : Bench) (payload buffer : List ℕ) (e : Event)
-    → ((played r b payload buffer e).answer ≡ answered (askOf r b payload buffer e))
-    × AsAsk r buffer (playedLeaves r b payload buffer e) (playedBuffer r b payload buffer e) (askOf r b payload buffer e)
+    → ((played r b payload buffer e).answer ≡ answered (ask_of r b payload buffer e))
+    × AsAsk r buffer (played_leaves r b payload buffer e) (played_buffer r b payload buffer e) (ask_of r b payload buffer e)

@@ -1,6 +1,6 @@
 -- What the claims ask of a run, and what they ask of a world: the premises of document 01's demand 3.
 use Rattle.std.specs.Prelude.{◌≡◌, Bool, true, List, [], ◌∷◌, ◌⊎◌, ℕ, ◌+◌, ◌^◌, ◌<◌, length}
-use Rattle.words.specs.Le.{leAt}
+use Rattle.words.specs.Le.{le_at}
 use Rattle.types.specs.Pick.{pick}
 use Rattle.types.specs.declared.Side.{Side}
 use Rattle.types.specs.declared.Side.TheVariants.{Sender, Recorder}
@@ -9,13 +9,13 @@ use Rattle.types.specs.declared.Fault.TheVariants.{Fine, Error}
 use Rattle.types.specs.declared.Step.TheVariants.{Rest, Wait, Asleep}
 use Rattle.types.specs.declared.Mark.TheVariants.{Shutdown as ShutMark}
 use Rattle.types.specs.declared.Event.TheVariants.{Turn, Failing, Spurious, TimeOut, Push, Pop, Close, Shutdown}
-use Rattle.layout.specs.Flags.{worth, bitOn, closeMark}
-use Rattle.layout.specs.Header.{flagsAt}
-use Rattle.rules.specs.Sides.{sameSide}
-use Rattle.rules.specs.Next.{nextSpec}
-use Rattle.rules.specs.Turn.{errorOf, wokeOf}
+use Rattle.layout.specs.Flags.{worth, bit_on, close_mark}
+use Rattle.layout.specs.Header.{flags_at}
+use Rattle.rules.specs.Sides.{same_side}
+use Rattle.rules.specs.Next.{next_spec}
+use Rattle.rules.specs.Turn.{error_of, woke_of}
 use Rattle.rules.specs.Bench.{hears}
-use Rattle.rules.specs.Run.{World, rungOf, Happening, attaches, plays, partyIn, takes, happens}
+use Rattle.rules.specs.Run.{World, rung_of, Happening, attaches, plays, party_in, takes, happens}
 
 -- a tag is a number of 16 bits; nothing else is asked of what happens
 abbrev pub Typed : Happening → Type 0
@@ -35,14 +35,14 @@ AllTyped (h ∷ hs) = Typed h × AllTyped hs
 
 -- The premises, for a side that waits. Its bell is raised fewer than 2^32 times between its look at it and its wait ..
 abbrev pub rung : Side → World → ℕ
-rung side w = rungOf side w.trace
+rung side w = rung_of side w.trace
 
 abbrev pub Timely : Side → World → Type 0
-Timely side w = (e : ℕ) → (partyIn w side).step ≡ Wait e → rung side w < 2 ^ 32
+Timely side w = (e : ℕ) → (party_in w side).step ≡ Wait e → rung side w < 2 ^ 32
 
 -- .. and no wake call of the other's fails that would have woken it
 abbrev pub Lands : (waiter mover : Side) → Fault → World → Type 0
-Lands waiter mover fault w = hears waiter (wokeOf (nextSpec (partyIn w mover)) 0) ≡ true → (partyIn w waiter).step ≡ Asleep → errorOf fault ≡ 0
+Lands waiter mover fault w = hears waiter (woke_of (next_spec (party_in w mover)) 0) ≡ true → (party_in w waiter).step ≡ Asleep → error_of fault ≡ 0
 
 -- what is asked of the waiter's own turn, and of the other's
 abbrev pub FairTurnBy : (Asked : Side → World → Type 0) → (waiter mover : Side) → Fault → World → Type 0
@@ -90,8 +90,8 @@ parting side (plays (Spurious mover) payload lent) = 0
 parting side (plays (TimeOut mover) payload lent) = 0
 parting side (plays (Push blocking tag length) payload lent) = 0
 parting side (plays (Pop blocking length) payload lent) = 0
-parting side (plays (Close mover) payload lent) = pick (sameSide side mover) 1 0
-parting side (plays (Shutdown mover) payload lent) = pick (sameSide side mover) 1 0
+parting side (plays (Close mover) payload lent) = pick (same_side side mover) 1 0
+parting side (plays (Shutdown mover) payload lent) = pick (same_side side mover) 1 0
 
 abbrev pub partings : Side → List Happening → ℕ
 partings side [] = 0
@@ -99,11 +99,11 @@ partings side (h ∷ hs) = parting side h + partings side hs
 
 -- a party between calls or asleep
 abbrev pub Quiet : Side → World → Type 0
-Quiet side w = ((partyIn w side).step ≡ Rest) ⊎ ((partyIn w side).step ≡ Asleep)
+Quiet side w = ((party_in w side).step ≡ Rest) ⊎ ((party_in w side).step ≡ Asleep)
 
 -- shut down, and closed, in the region's flags
 abbrev pub down : World → Bool
-down w = bitOn (worth ShutMark) (leAt 4 w.region flagsAt)
+down w = bit_on (worth ShutMark) (le_at 4 w.region flags_at)
 
-abbrev pub closedBit : Side → World → Bool
-closedBit side w = bitOn (worth (closeMark side)) (leAt 4 w.region flagsAt)
+abbrev pub closed_bit : Side → World → Bool
+closed_bit side w = bit_on (worth (close_mark side)) (le_at 4 w.region flags_at)

@@ -9,11 +9,11 @@ use Rattle.types.specs.declared.Bell.TheVariants.{NotEmpty, NotFull}
 use Rattle.types.specs.declared.Answer.{Answer}
 use Rattle.types.specs.declared.Answer.TheVariants.{Full, Empty}
 
-abbrev pub sameSide : Side → Side → Bool
-sameSide Sender Sender = true
-sameSide Sender Recorder = false
-sameSide Recorder Sender = false
-sameSide Recorder Recorder = true
+abbrev pub same_side : Side → Side → Bool
+same_side Sender Sender = true
+same_side Sender Recorder = false
+same_side Recorder Sender = false
+same_side Recorder Recorder = true
 
 -- used, head − tail: the sender's own counter is head, the recorder's is tail
 abbrev pub used : Side → (own their : ℕ) → ℕ
@@ -26,18 +26,18 @@ limit Sender capacity = capacity
 limit Recorder capacity = 0
 
 -- what a try form answers then
-abbrev pub blockedAnswer : Side → Answer
-blockedAnswer Sender = Full
-blockedAnswer Recorder = Empty
+abbrev pub blocked_answer : Side → Answer
+blocked_answer Sender = Full
+blocked_answer Recorder = Empty
 
 -- the bell that a side raises for the other, and the one that it sleeps on
-abbrev pub ringBell : Side → Bell
-ringBell Sender = NotEmpty
-ringBell Recorder = NotFull
+abbrev pub ring_bell : Side → Bell
+ring_bell Sender = NotEmpty
+ring_bell Recorder = NotFull
 
-abbrev pub sleepBell : Side → Bell
-sleepBell Sender = NotFull
-sleepBell Recorder = NotEmpty
+abbrev pub sleep_bell : Side → Bell
+sleep_bell Sender = NotFull
+sleep_bell Recorder = NotEmpty
 
 -- the recorder rings with not-full on alone
 abbrev pub rings : Side → (notfull : Bool) → Bool
@@ -45,10 +45,10 @@ rings Sender notfull = true
 rings Recorder notfull = notfull
 
 -- the numbers of the operations
-abbrev pub waitOp : Bell → ℕ
-waitOp NotEmpty = 0
-waitOp NotFull = 2
+abbrev pub wait_op : Bell → ℕ
+wait_op NotEmpty = 0
+wait_op NotFull = 2
 
-abbrev pub wakeOp : Bell → ℕ
-wakeOp NotEmpty = 1
-wakeOp NotFull = 3
+abbrev pub wake_op : Bell → ℕ
+wake_op NotEmpty = 1
+wake_op NotFull = 3

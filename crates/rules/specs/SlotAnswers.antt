@@ -1,6 +1,6 @@
 -- C2 over the bytes: what a pop's copy answers by the four words of its slot's header.
 use Rattle.std.specs.Prelude.{◌≡◌, true, List, ◌⊎◌, ℕ, ◌<◌, ◌≤◌, get_or}
-use Rattle.words.specs.Le.{leAt}
+use Rattle.words.specs.Le.{le_at}
 use Rattle.types.specs.declared.Side.{Side}
 use Rattle.types.specs.declared.Side.TheVariants.{Recorder}
 use Rattle.types.specs.declared.Party.{Party}
@@ -9,25 +9,25 @@ use Rattle.types.specs.declared.Step.{Step}
 use Rattle.types.specs.declared.Step.TheVariants.{Rest, Copy, Publish}
 use Rattle.types.specs.declared.Answer.{Answer}
 use Rattle.types.specs.declared.Answer.TheVariants.{CorruptSlot, OutputTooSmall, GoesOn}
-use Rattle.layout.specs.Limits.{payloadCapacity}
+use Rattle.layout.specs.Limits.{payload_capacity}
 use Rattle.rules.specs.Access.{slot_of}
-use Rattle.rules.specs.Turn.{taken, turnSpec}
+use Rattle.rules.specs.Turn.{taken, turn_spec}
 
 module _ (r : List ℕ) (p : Party) where
   -- the 16 bits at a place of the party's slot: length at 0, tag at 2, slot flags at 4, the zero word at 6
   abbrev pub word : ℕ → ℕ
-  word at = leAt 2 (slot_of r p.own p.counter) at
+  word at = le_at 2 (slot_of r p.own p.counter) at
 
   -- a length above the payload capacity, a slot flag but flag 0, a bit of the zero word
   abbrev pub SlotBad : Type 0
-  SlotBad = (payloadCapacity p.own.slot < word 0) ⊎ ((1 < word 4) ⊎ (0 < word 6))
+  SlotBad = (payload_capacity p.own.slot < word 0) ⊎ ((1 < word 4) ⊎ (0 < word 6))
 
   abbrev pub SlotGood : Type 0
-  SlotGood = (word 0 ≤ payloadCapacity p.own.slot) × (word 4 ≤ 1) × (word 6 ≡ 0)
+  SlotGood = (word 0 ≤ payload_capacity p.own.slot) × (word 4 ≤ 1) × (word 6 ≡ 0)
 
 module _ (side : Side) (r : List ℕ) (p : Party) (payload buffer : List ℕ) (fault : Fault) where
   abbrev pub Answers : Answer → Step → Type 0
-  Answers answer step = ((turnSpec side r p payload buffer fault).answer ≡ answer) × ((turnSpec side r p payload buffer fault).party.step ≡ step)
+  Answers answer step = ((turn_spec side r p payload buffer fault).answer ≡ answer) × ((turn_spec side r p payload buffer fault).party.step ≡ step)
 
   -- 8 on any ground, then 15, else length and tag are handed on
   pub record SlotAnswers : Type 0 where

@@ -12,9 +12,9 @@ use Rattle.types.specs.declared.Stance.TheVariants.{Resting, Sleeping, Copying, 
 use Rattle.types.specs.declared.Event.TheVariants.{Turn, Failing, Spurious, TimeOut, Push, Pop, Close, Shutdown}
 use Rattle.rules.specs.Sides.{other}
 use Rattle.rules.specs.Phase.{Phase, resting, looking, copying, publishing, telling, asking, armed, poised, waits, sleeps, glancing, leaving, phase}
-use Rattle.rules.specs.Take.{stanceOf}
+use Rattle.rules.specs.Take.{stance_of}
 use Rattle.rules.specs.Premises.{rung}
-use Rattle.rules.specs.Run.{Note, Trace, World, Happening, attaches, plays, partyIn, takes, happens}
+use Rattle.rules.specs.Run.{Note, Trace, World, Happening, attaches, plays, party_in, takes, happens}
 
 -- Document 01 counts a turn where it answers neither 20 nor 253; a begin is no turn
 abbrev pub moves : Stance → Bool
@@ -35,31 +35,31 @@ calling Closing = true
 calling Moving = true
 
 module _ (counted : Stance → Bool) where
-  abbrev pub countsBy : World → Side → (payload lent : List ℕ) → Fault → ℕ
-  countsBy w side payload lent fault = pick (takes w side payload lent fault && counted (stanceOf (partyIn w side).step)) 1 0
+  abbrev pub counts_by : World → Side → (payload lent : List ℕ) → Fault → ℕ
+  counts_by w side payload lent fault = pick (takes w side payload lent fault && counted (stance_of (party_in w side).step)) 1 0
 
-  abbrev pub tickBy : Happening → World → ℕ
-  tickBy (attaches other spins) w = 0
-  tickBy (plays (Turn mover) payload lent) w = countsBy w mover payload lent Fine
-  tickBy (plays (Failing mover error) payload lent) w = countsBy w mover payload lent (Error error)
-  tickBy (plays (Spurious mover) payload lent) w = 0
-  tickBy (plays (TimeOut mover) payload lent) w = 0
-  tickBy (plays (Push blocking tag length) payload lent) w = 0
-  tickBy (plays (Pop blocking length) payload lent) w = 0
-  tickBy (plays (Close mover) payload lent) w = 0
-  tickBy (plays (Shutdown mover) payload lent) w = 0
+  abbrev pub tick_by : Happening → World → ℕ
+  tick_by (attaches other spins) w = 0
+  tick_by (plays (Turn mover) payload lent) w = counts_by w mover payload lent Fine
+  tick_by (plays (Failing mover error) payload lent) w = counts_by w mover payload lent (Error error)
+  tick_by (plays (Spurious mover) payload lent) w = 0
+  tick_by (plays (TimeOut mover) payload lent) w = 0
+  tick_by (plays (Push blocking tag length) payload lent) w = 0
+  tick_by (plays (Pop blocking length) payload lent) w = 0
+  tick_by (plays (Close mover) payload lent) w = 0
+  tick_by (plays (Shutdown mover) payload lent) w = 0
 
-  abbrev pub ticksBy : List Happening → World → ℕ
-  ticksBy [] w = 0
-  ticksBy (h ∷ hs) w = tickBy h w + ticksBy hs (happens h w)
+  abbrev pub ticks_by : List Happening → World → ℕ
+  ticks_by [] w = 0
+  ticks_by (h ∷ hs) w = tick_by h w + ticks_by hs (happens h w)
 
 -- document 01's turns
 abbrev pub ticks : List Happening → World → ℕ
-ticks = ticksBy moves
+ticks = ticks_by moves
 
 -- a party's turns in a call, asleep or not
 abbrev pub beats : List Happening → World → ℕ
-beats = ticksBy calling
+beats = ticks_by calling
 
 -- what a party does itself
 abbrev pub OwnDoing : Side → Happening → Type 0
@@ -81,7 +81,7 @@ AllOwn side (h ∷ hs) = OwnDoing side h × AllOwn side hs
 abbrev pub Big : Side → World → Type 0
 Big Sender w = Unit
 Big Recorder w =
-    (partyIn w Recorder).step ≡ Copy → (n : Note) (rest : List Note) → w.trace.sent ≡ w.trace.delivered ++ (n ∷ rest) → length n.body ≤ (partyIn w Recorder).length
+    (party_in w Recorder).step ≡ Copy → (n : Note) (rest : List Note) → w.trace.sent ≡ w.trace.delivered ++ (n ∷ rest) → length n.body ≤ (party_in w Recorder).length
 
 -- the party neither closes nor shuts down, and each pop's buffer is big enough; it may try or block, its waits may fail, and
 -- what answers 20 or 253 may fall in between
@@ -101,88 +101,88 @@ Willing side [] w = Unit
 Willing side (h ∷ hs) w = Wills side h w × Willing side hs (happens h w)
 
 -- a party in a push or a pop, or between calls
-abbrev pub inCallAt : Phase → Bool
-inCallAt resting = true
-inCallAt looking = true
-inCallAt copying = true
-inCallAt (publishing l t) = true
-inCallAt (telling l t) = true
-inCallAt asking = true
-inCallAt (armed e) = true
-inCallAt (poised e) = true
-inCallAt (waits e) = true
-inCallAt sleeps = true
-inCallAt glancing = true
-inCallAt leaving = false
+abbrev pub in_call_at : Phase → Bool
+in_call_at resting = true
+in_call_at looking = true
+in_call_at copying = true
+in_call_at (publishing l t) = true
+in_call_at (telling l t) = true
+in_call_at asking = true
+in_call_at (armed e) = true
+in_call_at (poised e) = true
+in_call_at (waits e) = true
+in_call_at sleeps = true
+in_call_at glancing = true
+in_call_at leaving = false
 
-abbrev pub inCall : Step → Bool
-inCall s = inCallAt (phase s)
+abbrev pub in_call : Step → Bool
+in_call s = in_call_at (phase s)
 
 -- the notes that a side has published
-abbrev pub notesOf : Side → Trace → List Note
-notesOf Sender t = t.sent
-notesOf Recorder t = t.delivered
+abbrev pub notes_of : Side → Trace → List Note
+notes_of Sender t = t.sent
+notes_of Recorder t = t.delivered
 
 -- a pop that has yet to copy, and a party that holds an epoch
-abbrev pub beforeCopyAt : Phase → Bool
-beforeCopyAt resting = false
-beforeCopyAt looking = true
-beforeCopyAt copying = true
-beforeCopyAt (publishing l t) = false
-beforeCopyAt (telling l t) = false
-beforeCopyAt asking = true
-beforeCopyAt (armed e) = true
-beforeCopyAt (poised e) = true
-beforeCopyAt (waits e) = true
-beforeCopyAt sleeps = true
-beforeCopyAt glancing = true
-beforeCopyAt leaving = false
+abbrev pub before_copy_at : Phase → Bool
+before_copy_at resting = false
+before_copy_at looking = true
+before_copy_at copying = true
+before_copy_at (publishing l t) = false
+before_copy_at (telling l t) = false
+before_copy_at asking = true
+before_copy_at (armed e) = true
+before_copy_at (poised e) = true
+before_copy_at (waits e) = true
+before_copy_at sleeps = true
+before_copy_at glancing = true
+before_copy_at leaving = false
 
-abbrev pub beforeCopy : Step → Bool
-beforeCopy s = beforeCopyAt (phase s)
+abbrev pub before_copy : Step → Bool
+before_copy s = before_copy_at (phase s)
 
-abbrev pub holdsEpochAt : Phase → Bool
-holdsEpochAt resting = false
-holdsEpochAt looking = false
-holdsEpochAt copying = false
-holdsEpochAt (publishing l t) = false
-holdsEpochAt (telling l t) = false
-holdsEpochAt asking = false
-holdsEpochAt (armed e) = true
-holdsEpochAt (poised e) = true
-holdsEpochAt (waits e) = true
-holdsEpochAt sleeps = false
-holdsEpochAt glancing = false
-holdsEpochAt leaving = false
+abbrev pub holds_epoch_at : Phase → Bool
+holds_epoch_at resting = false
+holds_epoch_at looking = false
+holds_epoch_at copying = false
+holds_epoch_at (publishing l t) = false
+holds_epoch_at (telling l t) = false
+holds_epoch_at asking = false
+holds_epoch_at (armed e) = true
+holds_epoch_at (poised e) = true
+holds_epoch_at (waits e) = true
+holds_epoch_at sleeps = false
+holds_epoch_at glancing = false
+holds_epoch_at leaving = false
 
-abbrev pub holdsEpoch : Step → Bool
-holdsEpoch s = holdsEpochAt (phase s)
+abbrev pub holds_epoch : Step → Bool
+holds_epoch s = holds_epoch_at (phase s)
 
 -- the call under way meets the premises: its buffer is big enough for the note that it will come to, and its bell has not
 -- come round
 abbrev pub Underway : Side → World → Type 0
-Underway Sender w = holdsEpoch (partyIn w Sender).step ≡ true → rung Sender w < 2 ^ 32
+Underway Sender w = holds_epoch (party_in w Sender).step ≡ true → rung Sender w < 2 ^ 32
 Underway Recorder w =
-    (holdsEpoch (partyIn w Recorder).step ≡ true → rung Recorder w < 2 ^ 32)
-    × (beforeCopy (partyIn w Recorder).step ≡ true → (n : Note) (rest : List Note) → w.trace.sent ≡ w.trace.delivered ++ (n ∷ rest) → length n.body ≤ (partyIn w Recorder).length)
+    (holds_epoch (party_in w Recorder).step ≡ true → rung Recorder w < 2 ^ 32)
+    × (before_copy (party_in w Recorder).step ≡ true → (n : Note) (rest : List Note) → w.trace.sent ≡ w.trace.delivered ++ (n ∷ rest) → length n.body ≤ (party_in w Recorder).length)
 
 -- a step of a blocking call that finds no room, short of its last look
-abbrev pub inWaitAt : Phase → Bool
-inWaitAt resting = false
-inWaitAt looking = true
-inWaitAt copying = false
-inWaitAt (publishing l t) = false
-inWaitAt (telling l t) = false
-inWaitAt asking = true
-inWaitAt (armed e) = true
-inWaitAt (poised e) = true
-inWaitAt (waits e) = true
-inWaitAt sleeps = true
-inWaitAt glancing = false
-inWaitAt leaving = false
+abbrev pub in_wait_at : Phase → Bool
+in_wait_at resting = false
+in_wait_at looking = true
+in_wait_at copying = false
+in_wait_at (publishing l t) = false
+in_wait_at (telling l t) = false
+in_wait_at asking = true
+in_wait_at (armed e) = true
+in_wait_at (poised e) = true
+in_wait_at (waits e) = true
+in_wait_at sleeps = true
+in_wait_at glancing = false
+in_wait_at leaving = false
 
-abbrev pub inWait : Step → Bool
-inWait s = inWaitAt (phase s)
+abbrev pub in_wait : Step → Bool
+in_wait s = in_wait_at (phase s)
 
 -- turns of its own, none of which fails
 abbrev pub Turns : Side → List Happening → Type 0

@@ -15,73 +15,73 @@ use Rattle.types.specs.declared.Stance.TheVariants.{Resting, Sleeping, Copying, 
 use Rattle.types.specs.declared.Answer.TheVariants.{BadCall}
 use Rattle.types.specs.declared.Access.{Access}
 use Rattle.types.specs.declared.Access.TheVariants.{None, LoadCounter, LoadFlags, LoadBell, WriteSlot, ReadSlot, StoreCounter, RaiseBell, SetFlag, WaitBell, WakeBell}
-use Rattle.layout.specs.Limits.{totalBytes}
-use Rattle.rules.specs.Take.{stanceOf, takeSpec}
-use Rattle.rules.specs.Next.{nextSpec}
+use Rattle.layout.specs.Limits.{total_bytes}
+use Rattle.rules.specs.Take.{stance_of, take_spec}
+use Rattle.rules.specs.Next.{next_spec}
 use Rattle.rules.specs.Calls.{sound}
-use Rattle.rules.specs.Access.{value_of, leavesOf, bufferOf}
+use Rattle.rules.specs.Access.{value_of, leaves_of, buffer_of}
 
 -- the announced error; 0 is none, so none may be announced as 0
-abbrev pub errorOf : Fault → ℕ
-errorOf Fine = 0
-errorOf (Error e) = e
+abbrev pub error_of : Fault → ℕ
+error_of Fine = 0
+error_of (Error e) = e
 
-abbrev pub faultOk : Fault → Bool
-faultOk Fine = true
-faultOk (Error e) = ltb 0 e
+abbrev pub fault_ok : Fault → Bool
+fault_ok Fine = true
+fault_ok (Error e) = ltb 0 e
 
 -- a copy turn is lent a buffer of the length that the call named: a push's payload, a pop's buffer
-abbrev pub lentTo : Side → (payload buffer : ℕ) → ℕ
-lentTo Sender payload buffer = payload
-lentTo Recorder payload buffer = buffer
+abbrev pub lent_to : Side → (payload buffer : ℕ) → ℕ
+lent_to Sender payload buffer = payload
+lent_to Recorder payload buffer = buffer
 
-abbrev pub lentOk : Stance → (lent named : ℕ) → Bool
-lentOk Resting lent named = true
-lentOk Sleeping lent named = true
-lentOk Copying lent named = eqb lent named
-lentOk Publishing lent named = true
-lentOk Closing lent named = true
-lentOk Moving lent named = true
+abbrev pub lent_ok : Stance → (lent named : ℕ) → Bool
+lent_ok Resting lent named = true
+lent_ok Sleeping lent named = true
+lent_ok Copying lent named = eqb lent named
+lent_ok Publishing lent named = true
+lent_ok Closing lent named = true
+lent_ok Moving lent named = true
 
 -- 20's grounds at a turn
 unfoldable pub goes : Side → Party → (region payload buffer : ℕ) → Fault → Bool
 goes side p region payload buffer fault =
     sound side p
-    && (eqb region (totalBytes p.own.power p.own.slot)
-    && (lentOk (stanceOf p.step) (lentTo side payload buffer) p.length && faultOk fault))
+    && (eqb region (total_bytes p.own.power p.own.slot)
+    && (lent_ok (stance_of p.step) (lent_to side payload buffer) p.length && fault_ok fault))
 
 -- a wake that does not fail wakes a sleeper on its bell
-abbrev pub wokeWith : (failed : Bool) → Bell → Woke
-wokeWith false b = SleeperOn b
-wokeWith true b = Nobody
+abbrev pub woke_with : (failed : Bool) → Bell → Woke
+woke_with false b = SleeperOn b
+woke_with true b = Nobody
 
-abbrev pub wokeOf : Access → (error : ℕ) → Woke
-wokeOf None error = Nobody
-wokeOf (LoadCounter side) error = Nobody
-wokeOf LoadFlags error = Nobody
-wokeOf (LoadBell b) error = Nobody
-wokeOf (WriteSlot n) error = Nobody
-wokeOf (ReadSlot n) error = Nobody
-wokeOf (StoreCounter side n) error = Nobody
-wokeOf (RaiseBell b) error = Nobody
-wokeOf (SetFlag m) error = Nobody
-wokeOf (WaitBell b e) error = Nobody
-wokeOf (WakeBell b n) error = wokeWith (ltb 0 error) b
+abbrev pub woke_of : Access → (error : ℕ) → Woke
+woke_of None error = Nobody
+woke_of (LoadCounter side) error = Nobody
+woke_of LoadFlags error = Nobody
+woke_of (LoadBell b) error = Nobody
+woke_of (WriteSlot n) error = Nobody
+woke_of (ReadSlot n) error = Nobody
+woke_of (StoreCounter side n) error = Nobody
+woke_of (RaiseBell b) error = Nobody
+woke_of (SetFlag m) error = Nobody
+woke_of (WaitBell b e) error = Nobody
+woke_of (WakeBell b n) error = woke_with (ltb 0 error) b
 
 -- a turn that goes
-unfoldable pub actSpec : List ℕ → Party → (error : ℕ) → Turned
-actSpec region p error =
+unfoldable pub act_spec : List ℕ → Party → (error : ℕ) → Turned
+act_spec region p error =
     record {
-      party = (takeSpec p (value_of region p.own (nextSpec p)) error).party;
-      answer = (takeSpec p (value_of region p.own (nextSpec p)) error).answer;
-      woke = wokeOf (nextSpec p) error;
+      party = (take_spec p (value_of region p.own (next_spec p)) error).party;
+      answer = (take_spec p (value_of region p.own (next_spec p)) error).answer;
+      woke = woke_of (next_spec p) error;
     }
 
-unfoldable pub actLeaves : List ℕ → Party → (payload : List ℕ) → List ℕ
-actLeaves region p payload = leavesOf region p.own (nextSpec p) p.tag payload
+unfoldable pub act_leaves : List ℕ → Party → (payload : List ℕ) → List ℕ
+act_leaves region p payload = leaves_of region p.own (next_spec p) p.tag payload
 
-unfoldable pub actBuffer : List ℕ → Party → (buffer : List ℕ) → List ℕ
-actBuffer region p buffer = bufferOf region p.own (nextSpec p) p.length buffer
+unfoldable pub act_buffer : List ℕ → Party → (buffer : List ℕ) → List ℕ
+act_buffer region p buffer = buffer_of region p.own (next_spec p) p.length buffer
 
 abbrev pub refused : Party → Turned
 refused p = record { party = p; answer = BadCall; woke = Nobody }
@@ -90,11 +90,11 @@ module _ (side : Side) (region : List ℕ) (p : Party) (payload buffer : List �
   abbrev pub taken : Bool
   taken = goes side p (length region) (length payload) (length buffer) fault
 
-  unfoldable pub turnSpec : Turned
-  turnSpec = pick taken (actSpec region p (errorOf fault)) (refused p)
+  unfoldable pub turn_spec : Turned
+  turn_spec = pick taken (act_spec region p (error_of fault)) (refused p)
 
-  unfoldable pub turnLeaves : List ℕ
-  turnLeaves = pick taken (actLeaves region p payload) region
+  unfoldable pub turn_leaves : List ℕ
+  turn_leaves = pick taken (act_leaves region p payload) region
 
-  unfoldable pub turnBuffer : List ℕ
-  turnBuffer = pick taken (actBuffer region p buffer) buffer
+  unfoldable pub turn_buffer : List ℕ
+  turn_buffer = pick taken (act_buffer region p buffer) buffer

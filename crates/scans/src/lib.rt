@@ -1,6 +1,6 @@
 // Tests of runs of bytes in a lent slice.
 ghost use Rattle.std.specs.Prelude.{◌≡◌, ◌+◌, ◌*◌, ◌≤◌, length};
-ghost use Rattle.words.specs.Bytes.{zeros, bytesAre};
+ghost use Rattle.words.specs.Bytes.{zeros, bytes_are};
 
 // Whether the count bytes from at on are zero, a byte at a look.
 fn zero_bytes(s: &[u8], count: usize, at: usize) -> bool
@@ -48,7 +48,7 @@ pub fn all_zero(s: &[u8], count: usize, at: usize) -> bool
 // Whether the bytes of s from at on begin with those of t.
 pub fn same_bytes(s: &[u8], at: usize, t: &[u8]) -> bool
     requires { at + length t.now ≤ length s.now }
-    ensures { result ≡ bytesAre s.now at t.now }
+    ensures { result ≡ bytes_are s.now at t.now }
 {
     for k in 0..t.len() {
         if s[at + k] != t[k] {

@@ -1,38 +1,38 @@
 -- The whole report of a whole script.
 use Rattle.std.specs.Prelude.{◌&&◌, List, [], ◌++◌, ℕ, zero, suc, ◌/◌, ◌%◌, eqb, length, take, drop}
 use Rattle.types.specs.Pick.{pick}
-use Rattle.types.specs.Answers.{toldOf, number}
+use Rattle.types.specs.Answers.{told_of, number}
 use Rattle.opening.specs.Night.{Night, start}
-pub use Rattle.asked.specs.Played.{playedBy, regionBy, bufferBy}
-use Rattle.records.specs.Records.{recordBytes, kindIn, payloadIn, askedIn, reportOf, cutReport}
+pub use Rattle.asked.specs.Played.{played_by, region_by, buffer_by}
+use Rattle.records.specs.Records.{record_bytes, kind_in, payload_in, asked_in, report_of, cut_report}
 
 -- a push that was begun keeps its record's payload for its copy turn
-unfoldable pub payloadBy : List ℕ → Night → List ℕ
-payloadBy s w =
-    pick (eqb (kindIn s) 8 && eqb (number (playedBy (askedIn s) w).answer) 254) (payloadIn s) w.payload
+unfoldable pub payload_by : List ℕ → Night → List ℕ
+payload_by s w =
+    pick (eqb (kind_in s) 8 && eqb (number (played_by (asked_in s) w).answer) 254) (payload_in s) w.payload
 
 -- one record: what it leaves, and what is reported
 unfoldable pub after : Night → List ℕ → Night
 after w s =
     record {
-      region = regionBy (askedIn s) w;
-      bench = (playedBy (askedIn s) w).bench;
-      payload = payloadBy s w;
-      buffer = bufferBy (askedIn s) w;
+      region = region_by (asked_in s) w;
+      bench = (played_by (asked_in s) w).bench;
+      payload = payload_by s w;
+      buffer = buffer_by (asked_in s) w;
     }
 
 unfoldable pub reported : Night → List ℕ → List ℕ
-reported w s = reportOf (kindIn s) (toldOf (playedBy (askedIn s) w).answer) (bufferBy (askedIn s) w)
+reported w s = report_of (kind_in s) (told_of (played_by (asked_in s) w).answer) (buffer_by (asked_in s) w)
 
 -- n records, from the start of a script on
 unfoldable pub nights : ℕ → Night → List ℕ → Night
 nights zero w s = w
-nights (suc n) w s = nights n (after w (take recordBytes s)) (drop recordBytes s)
+nights (suc n) w s = nights n (after w (take record_bytes s)) (drop record_bytes s)
 
 unfoldable pub reports : ℕ → Night → List ℕ → List ℕ
 reports zero w s = []
-reports (suc n) w s = reported w (take recordBytes s) ++ reports n (after w (take recordBytes s)) (drop recordBytes s)
+reports (suc n) w s = reported w (take record_bytes s) ++ reports n (after w (take record_bytes s)) (drop record_bytes s)
 
 -- a whole script, the last record cut or not
 unfoldable pub report : List ℕ → List ℕ
-report s = reports (length s / recordBytes) start s ++ pick (eqb (length s % recordBytes) 0) [] cutReport
+report s = reports (length s / record_bytes) start s ++ pick (eqb (length s % record_bytes) 0) [] cut_report

@@ -1,8 +1,8 @@
 // One record of a script: what it asks is played, and reported.
 ghost use Rattle.std.specs.Prelude.{◌≡◌, ◌&&◌, length};
 ghost use Rattle.types.specs.Pick.{pick};
-ghost use Rattle.records.specs.Records.{recordBytes, payloadBytes, payloadIn};
-ghost use Rattle.opening.specs.Night.{nightOf};
+ghost use Rattle.records.specs.Records.{record_bytes, payload_bytes, payload_in};
+ghost use Rattle.opening.specs.Night.{night_of};
 ghost use Rattle.script.specs.Script.{after, reported};
 
 use records::Record;
@@ -10,8 +10,8 @@ use types::Bench;
 
 // A push that was begun keeps its record's payload.
 fn keep(payload: &mut [u8], given: &[u8], push: bool, begun: bool)
-    requires { (length payload.old ≡ payloadBytes) × (length given.now ≡ recordBytes) }
-    ensures { payload.new ≡ pick (push && begun) (payloadIn given.now) payload.old }
+    requires { (length payload.old ≡ payload_bytes) × (length given.now ≡ record_bytes) }
+    ensures { payload.new ≡ pick (push && begun) (payload_in given.now) payload.old }
 {
     if push {
         if begun {
@@ -29,9 +29,9 @@ pub fn play_record(
     given: &[u8],
     out: &mut [u8],
 ) -> Bench
-    requires { (length payload.old ≡ payloadBytes) × (length buffer.old ≡ payloadBytes) × (length given.now ≡ recordBytes) × (length out.old ≡ recordBytes) }
-    ensures leaves { nightOf region.new result payload.new buffer.new ≡ after (nightOf region.old b payload.old buffer.old) given.now }
-    ensures tells { out.new ≡ reported (nightOf region.old b payload.old buffer.old) given.now }
+    requires { (length payload.old ≡ payload_bytes) × (length buffer.old ≡ payload_bytes) × (length given.now ≡ record_bytes) × (length out.old ≡ record_bytes) }
+    ensures leaves { night_of region.new result payload.new buffer.new ≡ after (night_of region.old b payload.old buffer.old) given.now }
+    ensures tells { out.new ≡ reported (night_of region.old b payload.old buffer.old) given.now }
 {
     let a = records::asked_in(given);
     let played = asked::play_asked(region, b, a, payload, buffer);

@@ -1,11 +1,11 @@
 // The two seats of a bench, and what becomes of them when a party has had its turn.
 ghost use Rattle.std.specs.Prelude.{◌≡◌};
-ghost use Rattle.rules.specs.Bench.{partyOf, seat, settled, turned};
+ghost use Rattle.rules.specs.Bench.{party_of, seat, settled, turned};
 
 use types::{Bench, Party, Played, Reply, Side, Turned};
 
 pub fn party_of(b: Bench, side: Side) -> Party
-    ensures { result ≡ partyOf b side }
+    ensures { result ≡ party_of b side }
 {
     match side {
         Side::Sender => b.sender,

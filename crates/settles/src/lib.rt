@@ -1,12 +1,12 @@
 // What an event that is no turn makes of both parties: a begin, a spurious return, a time-out.
 ghost use Rattle.std.specs.Prelude.{◌≡◌};
-ghost use Rattle.rules.specs.Calls.{pushSpec, popSpec, closeSpec, shutSpec, spuriousSpec, timeoutSpec};
-ghost use Rattle.rules.specs.Bench.{partyOf, settled};
+ghost use Rattle.rules.specs.Calls.{push_spec, pop_spec, close_spec, shut_spec, spurious_spec, timeout_spec};
+ghost use Rattle.rules.specs.Bench.{party_of, settled};
 
 use types::{Bench, Played, Side};
 
 pub fn spurious(b: Bench, side: Side) -> Played
-    ensures { result ≡ settled b side (spuriousSpec side (partyOf b side)) }
+    ensures { result ≡ settled b side (spurious_spec side (party_of b side)) }
 {
     let p = seats::party_of(b, side);
     let r = calls::spurious(side, p);
@@ -14,7 +14,7 @@ pub fn spurious(b: Bench, side: Side) -> Played
 }
 
 pub fn time_out(b: Bench, side: Side) -> Played
-    ensures { result ≡ settled b side (timeoutSpec side (partyOf b side)) }
+    ensures { result ≡ settled b side (timeout_spec side (party_of b side)) }
 {
     let p = seats::party_of(b, side);
     let r = calls::time_out(side, p);
@@ -22,7 +22,7 @@ pub fn time_out(b: Bench, side: Side) -> Played
 }
 
 pub fn push(b: Bench, blocking: bool, tag: u16, length: u32) -> Played
-    ensures { result ≡ settled b Side.Sender (pushSpec b.sender blocking tag length) }
+    ensures { result ≡ settled b Side.Sender (push_spec b.sender blocking tag length) }
 {
     let p = b.sender;
     let r = calls::begin_push(p, blocking, tag, length);
@@ -30,7 +30,7 @@ pub fn push(b: Bench, blocking: bool, tag: u16, length: u32) -> Played
 }
 
 pub fn pop(b: Bench, blocking: bool, length: u32) -> Played
-    ensures { result ≡ settled b Side.Recorder (popSpec b.recorder blocking length) }
+    ensures { result ≡ settled b Side.Recorder (pop_spec b.recorder blocking length) }
 {
     let p = b.recorder;
     let r = calls::begin_pop(p, blocking, length);
@@ -38,7 +38,7 @@ pub fn pop(b: Bench, blocking: bool, length: u32) -> Played
 }
 
 pub fn close(b: Bench, side: Side) -> Played
-    ensures { result ≡ settled b side (closeSpec side (partyOf b side)) }
+    ensures { result ≡ settled b side (close_spec side (party_of b side)) }
 {
     let p = seats::party_of(b, side);
     let r = calls::begin_close(side, p);
@@ -46,7 +46,7 @@ pub fn close(b: Bench, side: Side) -> Played
 }
 
 pub fn shutdown(b: Bench, side: Side) -> Played
-    ensures { result ≡ settled b side (shutSpec side (partyOf b side)) }
+    ensures { result ≡ settled b side (shut_spec side (party_of b side)) }
 {
     let p = seats::party_of(b, side);
     let r = calls::begin_shutdown(side, p);

@@ -1,6 +1,6 @@
 // What differs by the side.
 ghost use Rattle.std.specs.Prelude.{◌≡◌};
-ghost use Rattle.rules.specs.Sides.{other, sameSide, used, limit, blockedAnswer, ringBell, sleepBell, rings, waitOp, wakeOp};
+ghost use Rattle.rules.specs.Sides.{other, same_side, used, limit, blocked_answer, ring_bell, sleep_bell, rings, wait_op, wake_op};
 
 use types::{Answer, Bell, Side};
 
@@ -14,7 +14,7 @@ pub fn other(side: Side) -> Side
 }
 
 pub fn same_side(a: Side, b: Side) -> bool
-    ensures { result ≡ sameSide a b }
+    ensures { result ≡ same_side a b }
 {
     match a {
         Side::Sender => match b {
@@ -49,7 +49,7 @@ pub fn limit(side: Side, capacity: u64) -> u64
 }
 
 pub fn blocked_answer(side: Side) -> Answer
-    ensures { result ≡ blockedAnswer side }
+    ensures { result ≡ blocked_answer side }
 {
     match side {
         Side::Sender => Answer::Full,
@@ -59,7 +59,7 @@ pub fn blocked_answer(side: Side) -> Answer
 
 // The bell that a side raises for the other.
 pub fn ring_bell(side: Side) -> Bell
-    ensures { result ≡ ringBell side }
+    ensures { result ≡ ring_bell side }
 {
     match side {
         Side::Sender => Bell::NotEmpty,
@@ -69,7 +69,7 @@ pub fn ring_bell(side: Side) -> Bell
 
 // The bell that a side sleeps on.
 pub fn sleep_bell(side: Side) -> Bell
-    ensures { result ≡ sleepBell side }
+    ensures { result ≡ sleep_bell side }
 {
     match side {
         Side::Sender => Bell::NotFull,
@@ -87,7 +87,7 @@ pub fn rings(side: Side, notfull: bool) -> bool
 }
 
 pub fn wait_op(bell: Bell) -> u8
-    ensures { result ≡ waitOp bell }
+    ensures { result ≡ wait_op bell }
 {
     match bell {
         Bell::NotEmpty => 0,
@@ -96,7 +96,7 @@ pub fn wait_op(bell: Bell) -> u8
 }
 
 pub fn wake_op(bell: Bell) -> u8
-    ensures { result ≡ wakeOp bell }
+    ensures { result ≡ wake_op bell }
 {
     match bell {
         Bell::NotEmpty => 1,

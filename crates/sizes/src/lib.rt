@@ -1,7 +1,7 @@
 // The house limits, and the sizes that follow from a power and a slot size. Nothing here wraps: a capacity is at most
 // 2^30 and a slot size below 2^32.
 ghost use Rattle.std.specs.Prelude.{◌≡◌, true};
-ghost use Rattle.layout.specs.Limits.{powerOk, slotOk, spinsOk, capacity, payloadCapacity, ringBytes, totalBytes};
+ghost use Rattle.layout.specs.Limits.{power_ok, slot_ok, spins_ok, capacity, payload_capacity, ring_bytes, total_bytes};
 ghost use Rattle.layout.specs.Slots.{slot_at};
 
 #[derive(Drop)]
@@ -26,7 +26,7 @@ impl Limits {
 }
 
 pub fn power_ok(power: u8) -> bool
-    ensures { result ≡ powerOk power }
+    ensures { result ≡ power_ok power }
 {
     if power < Limits::LEAST_POWER {
         return false;
@@ -35,7 +35,7 @@ pub fn power_ok(power: u8) -> bool
 }
 
 pub fn slot_ok(slot: u32) -> bool
-    ensures { result ≡ slotOk slot }
+    ensures { result ≡ slot_ok slot }
 {
     if slot < Limits::LEAST_SLOT {
         return false;
@@ -47,7 +47,7 @@ pub fn slot_ok(slot: u32) -> bool
 }
 
 pub fn spins_ok(spins: u16) -> bool
-    ensures { result ≡ spinsOk spins }
+    ensures { result ≡ spins_ok spins }
 {
     spins <= Limits::MOST_SPINS
 }
@@ -64,7 +64,7 @@ pub fn capacity(power: u8) -> u64
 
 // A slot size below its own header has no payload.
 pub fn payload_capacity(slot: u32) -> u32
-    ensures { result ≡ payloadCapacity slot }
+    ensures { result ≡ payload_capacity slot }
 {
     if slot < Limits::SLOT_HEAD_BYTES {
         return 0;
@@ -73,20 +73,20 @@ pub fn payload_capacity(slot: u32) -> u32
 }
 
 pub fn ring_bytes(power: u8, slot: u32) -> u64
-    ensures { result ≡ ringBytes power slot }
+    ensures { result ≡ ring_bytes power slot }
 {
     capacity(power) * (slot as u64)
 }
 
 pub fn total_bytes(power: u8, slot: u32) -> u64
-    ensures { result ≡ totalBytes power slot }
+    ensures { result ≡ total_bytes power slot }
 {
     Limits::HEADER_BYTES + ring_bytes(power, slot)
 }
 
 // Where the slot of a counter begins.
 pub fn slot_at(power: u8, slot: u32, count: u64) -> usize
-    requires { powerOk power ≡ true }
+    requires { power_ok power ≡ true }
     ensures { result ≡ slot_at power slot count }
 {
     let place = count % capacity(power);

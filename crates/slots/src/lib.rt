@@ -1,8 +1,8 @@
 // A slot of the ring, read: a part of the region that starts in its middle.
 ghost use Rattle.std.specs.Prelude.{◌≡◌, ◌+◌, ◌≤◌, length};
 ghost use Rattle.words.specs.Bytes.{part};
-ghost use Rattle.layout.specs.Limits.{slotHeadBytes};
-ghost use Rattle.layout.specs.Slots.{headWord, head_of, bufferPut};
+ghost use Rattle.layout.specs.Limits.{slot_head_bytes};
+ghost use Rattle.layout.specs.Slots.{head_word, head_of, buffer_put};
 
 use types::SlotHead;
 
@@ -24,16 +24,16 @@ impl Slot {
 
 // The whole header as one word.
 pub fn read_head(slot: &[u8]) -> u64
-    requires { slotHeadBytes ≤ length slot.now }
-    ensures { result ≡ headWord slot.now }
+    requires { slot_head_bytes ≤ length slot.now }
+    ensures { result ≡ head_word slot.now }
 {
     words::load64(slot, 0)
 }
 
 // The header of the slot of size bytes at at.
 pub fn head_at(region: &[u8], at: usize, size: usize) -> u64
-    requires { (slotHeadBytes ≤ size) × (at + size ≤ length region.now) }
-    ensures { result ≡ headWord (part region.now at size) }
+    requires { (slot_head_bytes ≤ size) × (at + size ≤ length region.now) }
+    ensures { result ≡ head_word (part region.now at size) }
 {
     read_head(&region[at..at + size])
 }
@@ -52,16 +52,16 @@ pub fn head_of(word: u64) -> SlotHead
 
 // Copies the first count bytes of the payload to the buffer's start.
 pub fn read_payload(slot: &[u8], count: usize, buffer: &mut [u8])
-    requires { (slotHeadBytes + count ≤ length slot.now) × (count ≤ length buffer.old) }
-    ensures { buffer.new ≡ bufferPut buffer.old slot.now count }
+    requires { (slot_head_bytes + count ≤ length slot.now) × (count ≤ length buffer.old) }
+    ensures { buffer.new ≡ buffer_put buffer.old slot.now count }
 {
     runs::copy_out(slot, Slot::PAYLOAD, count, buffer);
 }
 
 // The same of the slot of size bytes at at.
 pub fn payload_at(region: &[u8], at: usize, size: usize, count: usize, buffer: &mut [u8])
-    requires { (slotHeadBytes + count ≤ size) × (at + size ≤ length region.now) × (count ≤ length buffer.old) }
-    ensures { buffer.new ≡ bufferPut buffer.old (part region.now at size) count }
+    requires { (slot_head_bytes + count ≤ size) × (at + size ≤ length region.now) × (count ≤ length buffer.old) }
+    ensures { buffer.new ≡ buffer_put buffer.old (part region.now at size) count }
 {
     read_payload(&region[at..at + size], count, buffer);
 }

@@ -1,12 +1,12 @@
 // The tests of a party's record: 20's grounds that lie in it, whether a call runs, and whether the party sleeps.
 ghost use Rattle.std.specs.Prelude.{◌≡◌, ◌&&◌};
-ghost use Rattle.rules.specs.Calls.{isResting, isSleeping, lengthOk, sound, ready};
-ghost use Rattle.rules.specs.Take.{stanceOf};
+ghost use Rattle.rules.specs.Calls.{is_resting, is_sleeping, length_ok, sound, ready};
+ghost use Rattle.rules.specs.Take.{stance_of};
 
 use types::{Party, Side, Stance, Step};
 
 pub fn stance_of(step: Step) -> Stance
-    ensures { result ≡ stanceOf step }
+    ensures { result ≡ stance_of step }
 {
     match step {
         Step::Rest => Stance::Resting,
@@ -36,7 +36,7 @@ pub fn stance_of(step: Step) -> Stance
 }
 
 fn is_resting(stance: Stance) -> bool
-    ensures { result ≡ isResting stance }
+    ensures { result ≡ is_resting stance }
 {
     match stance {
         Stance::Resting => true,
@@ -49,7 +49,7 @@ fn is_resting(stance: Stance) -> bool
 }
 
 fn is_sleeping(stance: Stance) -> bool
-    ensures { result ≡ isSleeping stance }
+    ensures { result ≡ is_sleeping stance }
 {
     match stance {
         Stance::Resting => false,
@@ -63,7 +63,7 @@ fn is_sleeping(stance: Stance) -> bool
 
 // A push's length is tested; a pop may name any.
 pub fn length_ok(side: Side, length: u32, slot: u32) -> bool
-    ensures { result ≡ lengthOk side length slot }
+    ensures { result ≡ length_ok side length slot }
 {
     let most = sizes::payload_capacity(slot);
     match side {
@@ -102,7 +102,7 @@ pub fn ready(side: Side, p: Party) -> bool
 }
 
 pub fn sleeps(p: Party) -> bool
-    ensures { result ≡ isSleeping (stanceOf p.step) }
+    ensures { result ≡ is_sleeping (stance_of p.step) }
 {
     let step = p.step;
     let stance = stance_of(step);

@@ -17,73 +17,73 @@ use Rattle.types.specs.declared.Side.{Side}
 use Rattle.types.specs.declared.Room.TheVariants.{Corrupt}
 use Rattle.types.specs.declared.Answer.{Answer}
 use Rattle.types.specs.declared.Answer.TheVariants.{Done, InvalidCapacity, BadCall}
-use Rattle.layout.specs.Limits.{mostPower, mostSlot, powerOk, slotOk, spinsOk, capacity, payloadCapacity, ringBytes, totalBytes}
+use Rattle.layout.specs.Limits.{most_power, most_slot, power_ok, slot_ok, spins_ok, capacity, payload_capacity, ring_bytes, total_bytes}
 use Rattle.layout.specs.Slots.{slot_at}
-use Rattle.layout.specs.Create.{createAnswer}
-use Rattle.layout.specs.Attach.{flagChecks, regionChecks, attachChecks, attachAnswer}
+use Rattle.layout.specs.Create.{create_answer}
+use Rattle.layout.specs.Attach.{flag_checks, region_checks, attach_checks, attach_answer}
 use Rattle.layout.proofs.SizeLaws.{capacity-most, slot-most, total-most}
-use Rattle.layout.specs.Whole.{sizeChecks}
+use Rattle.layout.specs.Whole.{size_checks}
 use Rattle.layout.proofs.Accepted.{spins-taken, attach-headed, accepted as accepted-by}
-use Rattle.rules.specs.Looks.{roomWith, roomOf}
-use Rattle.starred.specs.Cases.{Case, accepted, largest, refused, flagged, spinning, overspun, used, corrupt, place, bell, slotRefused, powerRefused, Whole, Largest, Spinning, Overspun, CorruptAt, Raised, Holds, AllHold, starred}
+use Rattle.rules.specs.Looks.{room_with, room_of}
+use Rattle.starred.specs.Cases.{Case, accepted, largest, refused, flagged, spinning, overspun, used, corrupt, place, bell, slot_refused, power_refused, Whole, Largest, Spinning, Overspun, CorruptAt, Raised, Holds, AllHold, starred}
 
 -- What is left to compute of each row; the laws do the rest, so the table's sizes stand in the table alone.
 abbrev Shown : Case → Type 0
-Shown (accepted power slot total payload) = (totalBytes power slot ≡ total) × (payloadCapacity slot ≡ payload) × (createAnswer total power slot ≡ Done 0 0)
-Shown (largest total payload) = (totalBytes mostPower mostSlot ≡ total) × (payloadCapacity mostSlot ≡ payload)
-Shown (slotRefused slot answer) =
-    ((bytes power : ℕ) → createAnswer bytes power slot ≡ answer) × ((ring power flags : ℕ) (side : Side) → first_of (sizeChecks ring power slot flags side) ≡ answer)
-Shown (powerRefused power answer) = (powerOk power ≡ false) × (answer ≡ InvalidCapacity)
+Shown (accepted power slot total payload) = (total_bytes power slot ≡ total) × (payload_capacity slot ≡ payload) × (create_answer total power slot ≡ Done 0 0)
+Shown (largest total payload) = (total_bytes most_power most_slot ≡ total) × (payload_capacity most_slot ≡ payload)
+Shown (slot_refused slot answer) =
+    ((bytes power : ℕ) → create_answer bytes power slot ≡ answer) × ((ring power flags : ℕ) (side : Side) → first_of (size_checks ring power slot flags side) ≡ answer)
+Shown (power_refused power answer) = (power_ok power ≡ false) × (answer ≡ InvalidCapacity)
 Shown (refused power slot answer) =
-    ((bytes : ℕ) → createAnswer bytes power slot ≡ answer) × ((ring flags : ℕ) (side : Side) → first_of (sizeChecks ring power slot flags side) ≡ answer)
-Shown (flagged flags answer) = (side : Side) → first_of (flagChecks flags side) ≡ answer
-Shown (spinning spins) = spinsOk spins ≡ true
-Shown (overspun spins answer) = (shape : Answer) → pick (spinsOk spins) shape BadCall ≡ answer
-Shown (used capacity n sender recorder) = (n < 2 ^ 64) × (roomWith n capacity capacity ≡ sender) × (roomWith n capacity 0 ≡ recorder)
-Shown (corrupt head tail) = capacity mostPower < minus 64 head tail
+    ((bytes : ℕ) → create_answer bytes power slot ≡ answer) × ((ring flags : ℕ) (side : Side) → first_of (size_checks ring power slot flags side) ≡ answer)
+Shown (flagged flags answer) = (side : Side) → first_of (flag_checks flags side) ≡ answer
+Shown (spinning spins) = spins_ok spins ≡ true
+Shown (overspun spins answer) = (shape : Answer) → pick (spins_ok spins) shape BadCall ≡ answer
+Shown (used capacity n sender recorder) = (n < 2 ^ 64) × (room_with n capacity capacity ≡ sender) × (room_with n capacity 0 ≡ recorder)
+Shown (corrupt head tail) = capacity most_power < minus 64 head tail
 Shown (place power slot count at after) = (slot_at power slot count ≡ at) × (next 64 count ≡ after)
 Shown (bell reading raised) = Raised reading raised
 
-too_many : (n capacity limit : ℕ) → capacity < n → roomWith n capacity limit ≡ Corrupt
+too_many : (n capacity limit : ℕ) → capacity < n → room_with n capacity limit ≡ Corrupt
 too_many n capacity limit h = rw (lt-ltb capacity n h)
 
-far : (head tail : ℕ) → capacity mostPower < minus 64 head tail → CorruptAt head tail
-unfolding roomOf
+far : (head tail : ℕ) → capacity most_power < minus 64 head tail → CorruptAt head tail
+unfolding room_of
 far head tail h power =
     let l : capacity power < minus 64 head tail = omega (arith, capacity-most power) in
     (too_many (minus 64 head tail) (capacity power) (capacity power) l, too_many (minus 64 head tail) (capacity power) 0 l)
 
-most : (total payload : ℕ) → totalBytes mostPower mostSlot ≡ total → payloadCapacity mostSlot ≡ payload → Largest total payload
-unfolding payloadCapacity powerOk slotOk
+most : (total payload : ℕ) → total_bytes most_power most_slot ≡ total → payload_capacity most_slot ≡ payload → Largest total payload
+unfolding payload_capacity power_ok slot_ok
 most total payload t p =
-    ((λ power slot power-ok Slot-ok. (rw t at (total-most slot Slot-ok power), omega (arith, slot-most slot Slot-ok))), (mostPower, (mostSlot, (refl, (refl, (t, p))))))
+    ((λ power slot power-ok Slot-ok. (rw t at (total-most slot Slot-ok power), omega (arith, slot-most slot Slot-ok))), (most_power, (most_slot, (refl, (refl, (t, p))))))
 
-none-spins : spinsOk 0 ≡ true
-unfolding spinsOk
+none-spins : spins_ok 0 ≡ true
+unfolding spins_ok
 none-spins = refl
 
-few : (spins : ℕ) → spinsOk spins ≡ true → Spinning spins
+few : (spins : ℕ) → spins_ok spins ≡ true → Spinning spins
 few spins h r side = spins-taken r side spins h ∙ sym (spins-taken r side 0 none-spins)
 
-many : (spins : ℕ) (answer : Answer) → ((shape : Answer) → pick (spinsOk spins) shape BadCall ≡ answer) → Overspun spins answer
-unfolding attachAnswer attachChecks
-many spins answer c r side = c (first_of (regionChecks r side))
+many : (spins : ℕ) (answer : Answer) → ((shape : Answer) → pick (spins_ok spins) shape BadCall ≡ answer) → Overspun spins answer
+unfolding attach_answer attach_checks
+many spins answer c r side = c (first_of (region_checks r side))
 
 -- What create makes of accepted sizes, attach accepts; a count decides before all the rest, refused sizes before the rest
 -- of the header, and flags last; the start of the counters does not matter.
 shown : (c : Case) → Shown c → Holds c
-unfolding roomOf createAnswer
+unfolding room_of create_answer
 shown (accepted power slot total payload) (t, p, c) =
     (t, p, c, λ r notfull start side spins long small few. accepted-by r power slot notfull start (rw long c) small side spins few)
 shown (largest total payload) (t, p) = most total payload t p
-shown (slotRefused slot answer) (c, s) = λ power.
+shown (slot_refused slot answer) (c, s) = λ power.
     ((λ bytes. c bytes power), λ r ring flags start side spins f few. attach-headed r ring power slot flags start f side spins few ∙ s ring power flags side)
-shown (powerRefused power answer) (p, a) = λ slot s.
+shown (power_refused power answer) (p, a) = λ slot s.
     ((λ bytes. rw (s, p, a)), λ r ring flags start side spins f few. attach-headed r ring power slot flags start f side spins few ∙ rw (s, p, a))
 shown (refused power slot answer) (c, s) = (c, λ r ring flags start side spins f few. attach-headed r ring power slot flags start f side spins few ∙ s ring flags side)
 shown (flagged flags answer) c = λ r power slot start side spins p s few f.
-    attach-headed r (ringBytes power slot) power slot flags start f side spins few
-    ∙ rw (s, p, eq-eqb (ringBytes power slot) (ringBytes power slot) refl) (c side)
+    attach-headed r (ring_bytes power slot) power slot flags start f side spins few
+    ∙ rw (s, p, eq-eqb (ring_bytes power slot) (ring_bytes power slot) refl) (c side)
 shown (spinning spins) h = few spins h
 shown (overspun spins answer) c = many spins answer c
 shown (used capacity n sender recorder) (h, s, r) = λ tail t. rw (minus_plus 64 tail n (omega arith) h) (s, r)
@@ -125,7 +125,7 @@ unfolding plus
 top = ((2147483647, (lit< tt, refl)), λ n h e. rw (reading-most n e))
 
 pub holds : AllHold starred
-unfolding createAnswer slotOk powerOk spinsOk capacity payloadCapacity ringBytes totalBytes slot_at flagChecks plus minus
+unfolding create_answer slot_ok power_ok spins_ok capacity payload_capacity ring_bytes total_bytes slot_at flag_checks plus minus
 holds =
     all_shown {cs = starred}
     ((refl, refl, refl)

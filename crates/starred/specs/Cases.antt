@@ -9,13 +9,13 @@ use Rattle.types.specs.declared.Room.{Room}
 use Rattle.types.specs.declared.Room.TheVariants.{Corrupt, Blocked, Free}
 use Rattle.types.specs.declared.Answer.{Answer}
 use Rattle.types.specs.declared.Answer.TheVariants.{Done, InvalidLayout, InvalidCapacity, InvalidSlotSize, BadCall}
-use Rattle.layout.specs.Limits.{powerOk, slotOk, spinsOk, capacity, payloadCapacity, ringBytes, totalBytes}
+use Rattle.layout.specs.Limits.{power_ok, slot_ok, spins_ok, capacity, payload_capacity, ring_bytes, total_bytes}
 use Rattle.layout.specs.Header.{headed}
 use Rattle.layout.specs.Slots.{slot_at}
-use Rattle.layout.specs.Create.{createAnswer, created}
-use Rattle.layout.specs.Attach.{attachAnswer}
+use Rattle.layout.specs.Create.{create_answer, created}
+use Rattle.layout.specs.Attach.{attach_answer}
 use Rattle.layout.specs.Whole.{Fitting}
-use Rattle.rules.specs.Looks.{roomOf}
+use Rattle.rules.specs.Looks.{room_of}
 
 pub data Case : Type 0 where
   -- sizes that are accepted, with the total and the payload capacity
@@ -23,9 +23,9 @@ pub data Case : Type 0 where
   -- the largest total and the largest payload capacity of all sizes within the limits
   largest : (total payload : ℕ) → Case
   -- a slot size that is refused whatever the power
-  slotRefused : (slot : ℕ) → Answer → Case
+  slot_refused : (slot : ℕ) → Answer → Case
   -- a power that is refused whatever the slot size, within the limits: the slot size is tested first
-  powerRefused : (power : ℕ) → Answer → Case
+  power_refused : (power : ℕ) → Answer → Case
   -- sizes that are refused
   refused : (power slot : ℕ) → Answer → Case
   -- flags that attach refuses
@@ -49,11 +49,11 @@ starred =
     ∷ accepted 10 4096 4194688 4088
     ∷ accepted 30 65536 70368744178048 65528
     ∷ largest 70368744178048 65528
-    ∷ powerRefused 0 InvalidCapacity
-    ∷ powerRefused 31 InvalidCapacity
-    ∷ slotRefused 0 InvalidSlotSize
-    ∷ slotRefused 12 InvalidSlotSize
-    ∷ slotRefused 65544 InvalidSlotSize
+    ∷ power_refused 0 InvalidCapacity
+    ∷ power_refused 31 InvalidCapacity
+    ∷ slot_refused 0 InvalidSlotSize
+    ∷ slot_refused 12 InvalidSlotSize
+    ∷ slot_refused 65544 InvalidSlotSize
     ∷ refused 0 12 InvalidSlotSize
     ∷ used 4 4 Blocked Free
     ∷ used 4 5 Corrupt Corrupt
@@ -75,54 +75,54 @@ Whole cases = length cases ≡ 15 + 2 + 2
 -- within the limit
 abbrev pub Accepted : (power slot total payload : ℕ) → Type 0
 Accepted power slot total payload =
-    (totalBytes power slot ≡ total)
-    × (payloadCapacity slot ≡ payload)
-    × (createAnswer total power slot ≡ Done 0 0)
-    × ((r : List ℕ) (notfull : Bool) (start : ℕ) (side : Side) (spins : ℕ) → length r ≡ total → start < 256 ^ 8 → spinsOk spins ≡ true
-    → attachAnswer (created r power slot notfull start) side spins ≡ Done 0 0)
+    (total_bytes power slot ≡ total)
+    × (payload_capacity slot ≡ payload)
+    × (create_answer total power slot ≡ Done 0 0)
+    × ((r : List ℕ) (notfull : Bool) (start : ℕ) (side : Side) (spins : ℕ) → length r ≡ total → start < 256 ^ 8 → spins_ok spins ≡ true
+    → attach_answer (created r power slot notfull start) side spins ≡ Done 0 0)
 
 -- no sizes within the limits have more, and some have as much
 abbrev pub Largest : (total payload : ℕ) → Type 0
 Largest total payload =
-    ((power slot : ℕ) → powerOk power ≡ true → slotOk slot ≡ true → (totalBytes power slot ≤ total) × (payloadCapacity slot ≤ payload))
-    × ((power : ℕ) × ((slot : ℕ) × ((powerOk power ≡ true) × ((slotOk slot ≡ true) × ((totalBytes power slot ≡ total) × (payloadCapacity slot ≡ payload))))))
+    ((power slot : ℕ) → power_ok power ≡ true → slot_ok slot ≡ true → (total_bytes power slot ≤ total) × (payload_capacity slot ≤ payload))
+    × ((power : ℕ) × ((slot : ℕ) × ((power_ok power ≡ true) × ((slot_ok slot ≡ true) × ((total_bytes power slot ≡ total) × (payload_capacity slot ≡ payload))))))
 
 -- create refuses any region, and attach any whole header with those sizes, whatever its ring bytes and flags are
 abbrev pub Refused : (power slot : ℕ) → Answer → Type 0
 Refused power slot answer =
-    ((bytes : ℕ) → createAnswer bytes power slot ≡ answer)
-    × ((r : List ℕ) (ring flags start : ℕ) (side : Side) (spins : ℕ) → Fitting r ring power slot flags start → spinsOk spins ≡ true
-    → attachAnswer (headed r ring power slot flags start) side spins ≡ answer)
+    ((bytes : ℕ) → create_answer bytes power slot ≡ answer)
+    × ((r : List ℕ) (ring flags start : ℕ) (side : Side) (spins : ℕ) → Fitting r ring power slot flags start → spins_ok spins ≡ true
+    → attach_answer (headed r ring power slot flags start) side spins ≡ answer)
 
 abbrev pub SlotRefused : (slot : ℕ) → Answer → Type 0
 SlotRefused slot answer = (power : ℕ) → Refused power slot answer
 
 abbrev pub PowerRefused : (power : ℕ) → Answer → Type 0
-PowerRefused power answer = (slot : ℕ) → slotOk slot ≡ true → Refused power slot answer
+PowerRefused power answer = (slot : ℕ) → slot_ok slot ≡ true → Refused power slot answer
 
 -- attach refuses any whole header with sizes within the limits and those flags
 abbrev pub Flagged : ℕ → Answer → Type 0
 Flagged flags answer =
-    (r : List ℕ) (power slot start : ℕ) (side : Side) (spins : ℕ) → powerOk power ≡ true → slotOk slot ≡ true → spinsOk spins ≡ true → Fitting r (ringBytes power slot) power slot flags start
-    → attachAnswer (headed r (ringBytes power slot) power slot flags start) side spins ≡ answer
+    (r : List ℕ) (power slot start : ℕ) (side : Side) (spins : ℕ) → power_ok power ≡ true → slot_ok slot ≡ true → spins_ok spins ≡ true → Fitting r (ring_bytes power slot) power slot flags start
+    → attach_answer (headed r (ring_bytes power slot) power slot flags start) side spins ≡ answer
 
 -- over any region at all, of either side: what is answered without spins
 abbrev pub Spinning : ℕ → Type 0
-Spinning spins = (r : List ℕ) (side : Side) → attachAnswer r side spins ≡ attachAnswer r side 0
+Spinning spins = (r : List ℕ) (side : Side) → attach_answer r side spins ≡ attach_answer r side 0
 
 abbrev pub Overspun : ℕ → Answer → Type 0
-Overspun spins answer = (r : List ℕ) (side : Side) → attachAnswer r side spins ≡ answer
+Overspun spins answer = (r : List ℕ) (side : Side) → attach_answer r side spins ≡ answer
 
 -- from any start of both counters
 abbrev pub Used : (capacity n : ℕ) → (sender recorder : Room) → Type 0
 Used capacity n sender recorder =
     (tail : ℕ) → tail < 2 ^ 64
-    → (roomOf Sender capacity (plus 64 tail n) tail ≡ sender) × (roomOf Recorder capacity tail (plus 64 tail n) ≡ recorder)
+    → (room_of Sender capacity (plus 64 tail n) tail ≡ sender) × (room_of Recorder capacity tail (plus 64 tail n) ≡ recorder)
 
 -- at every power
 abbrev pub CorruptAt : (head tail : ℕ) → Type 0
 CorruptAt head tail =
-    (power : ℕ) → (roomOf Sender (capacity power) head tail ≡ Corrupt) × (roomOf Recorder (capacity power) tail head ≡ Corrupt)
+    (power : ℕ) → (room_of Sender (capacity power) head tail ≡ Corrupt) × (room_of Recorder (capacity power) tail head ≡ Corrupt)
 
 -- a bell may read so, and whatever word reads so is raised to that
 abbrev pub Raised : (reading raised : ℤ) → Type 0
@@ -133,8 +133,8 @@ Raised reading raised =
 abbrev pub Holds : Case → Type 0
 Holds (accepted power slot total payload) = Accepted power slot total payload
 Holds (largest total payload) = Largest total payload
-Holds (slotRefused slot answer) = SlotRefused slot answer
-Holds (powerRefused power answer) = PowerRefused power answer
+Holds (slot_refused slot answer) = SlotRefused slot answer
+Holds (power_refused power answer) = PowerRefused power answer
 Holds (refused power slot answer) = Refused power slot answer
 Holds (flagged flags answer) = Flagged flags answer
 Holds (spinning spins) = Spinning spins

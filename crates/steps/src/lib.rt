@@ -1,15 +1,15 @@
 // Where a turn of a push or a pop leads, a function a step. A party's own copy of sizes and options is `own`.
 ghost use Rattle.std.specs.Prelude.{◌≡◌};
 ghost use Rattle.types.specs.Pick.{pick};
-ghost use Rattle.rules.specs.Looks.{roomHere};
-ghost use Rattle.rules.specs.Steps.{roomMove, blockedMove, lookMove, fitMove, copyWith, copyMove, publishMove, checkMove, unlessFailed, wakeMove};
+ghost use Rattle.rules.specs.Looks.{room_here};
+ghost use Rattle.rules.specs.Steps.{room_move, blocked_move, look_move, fit_move, copy_with, copy_move, publish_move, check_move, unless_failed, wake_move};
 
 use looks::Error;
 use types::{Answer, Fit, Move, Own, Room, Side, Step};
 
 // What the other side's counter says to a party.
 pub fn room_here(own: Own, counter: u64, their: u64) -> Room
-    ensures { result ≡ roomHere own counter their }
+    ensures { result ≡ room_here own counter their }
 {
     let side = own.side;
     let capacity = sizes::capacity(own.power);
@@ -18,7 +18,7 @@ pub fn room_here(own: Own, counter: u64, their: u64) -> Room
 
 // Corruption begins a shutdown.
 pub fn room_move(room: Room, blocked: Move) -> Move
-    ensures { result ≡ roomMove room blocked }
+    ensures { result ≡ room_move room blocked }
 {
     match room {
         Room::Corrupt => Move::To(Step::ShutSet(true)),
@@ -39,7 +39,7 @@ pub fn goes_or_ends(goes: bool, onward: Step, answer: Answer) -> Move
 
 // Full or empty ends a try form.
 pub fn blocked_move(blocking: bool, side: Side) -> Move
-    ensures { result ≡ blockedMove blocking side }
+    ensures { result ≡ blocked_move blocking side }
 {
     let answer = sides::blocked_answer(side);
     goes_or_ends(blocking, Step::Gate, answer)
@@ -47,7 +47,7 @@ pub fn blocked_move(blocking: bool, side: Side) -> Move
 
 // P1 and C1.
 pub fn look_move(own: Own, counter: u64, blocking: bool, their: u64) -> Move
-    ensures { result ≡ lookMove own counter blocking their }
+    ensures { result ≡ look_move own counter blocking their }
 {
     let side = own.side;
     let room = room_here(own, counter, their);
@@ -57,7 +57,7 @@ pub fn look_move(own: Own, counter: u64, blocking: bool, their: u64) -> Move
 
 // C2: 8, then 15.
 pub fn fit_move(fit: Fit, length: u16, tag: u16) -> Move
-    ensures { result ≡ fitMove fit length tag }
+    ensures { result ≡ fit_move fit length tag }
 {
     match fit {
         Fit::Bad => Move::End(Answer::CorruptSlot),
@@ -68,7 +68,7 @@ pub fn fit_move(fit: Fit, length: u16, tag: u16) -> Move
 
 // A push carries no note on.
 pub fn copy_with(side: Side, read: Move) -> Move
-    ensures { result ≡ copyWith side read }
+    ensures { result ≡ copy_with side read }
 {
     match side {
         Side::Sender => Move::To(Step::Publish(0, 0)),
@@ -78,7 +78,7 @@ pub fn copy_with(side: Side, read: Move) -> Move
 
 // P2 and C2. The word is the slot's header, where a pop read one.
 pub fn copy_move(own: Own, buffer: u32, word: u64) -> Move
-    ensures { result ≡ copyMove own buffer word }
+    ensures { result ≡ copy_move own buffer word }
 {
     let side = own.side;
     let most = sizes::payload_capacity(own.slot);
@@ -90,7 +90,7 @@ pub fn copy_move(own: Own, buffer: u32, word: u64) -> Move
 
 // P3 and C3.
 pub fn publish_move(own: Own, length: u16, tag: u16) -> Move
-    ensures { result ≡ publishMove own length tag }
+    ensures { result ≡ publish_move own length tag }
 {
     let side = own.side;
     let rings = sides::rings(side, own.notfull);
@@ -99,7 +99,7 @@ pub fn publish_move(own: Own, length: u16, tag: u16) -> Move
 
 // P4 and C4.
 pub fn check_move(own: Own, counter: u64, their: u64, length: u16, tag: u16) -> Move
-    ensures { result ≡ checkMove own counter their length tag }
+    ensures { result ≡ check_move own counter their length tag }
 {
     let side = own.side;
     let capacity = sizes::capacity(own.power);
@@ -109,7 +109,7 @@ pub fn check_move(own: Own, counter: u64, their: u64, length: u16, tag: u16) -> 
 
 // A futex call that failed answers 17.
 pub fn unless_failed(error: u16, operation: u8, answer: Answer) -> Answer
-    ensures { result ≡ unlessFailed error operation answer }
+    ensures { result ≡ unless_failed error operation answer }
 {
     let fine = error == Error::NONE;
     if fine {
@@ -121,7 +121,7 @@ pub fn unless_failed(error: u16, operation: u8, answer: Answer) -> Answer
 
 // P6 and C6, and a close's last turn.
 pub fn wake_move(own: Own, error: u16, length: u16, tag: u16) -> Move
-    ensures { result ≡ wakeMove own error length tag }
+    ensures { result ≡ wake_move own error length tag }
 {
     let side = own.side;
     let bell = sides::ring_bell(side);

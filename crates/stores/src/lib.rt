@@ -1,26 +1,26 @@
 // The words of a header that a turn stores: a counter, a bell, a flag.
 ghost use Rattle.std.specs.Prelude.{◌≡◌, ◌≤◌, length};
-ghost use Rattle.words.specs.Le.{leAt, putLe};
+ghost use Rattle.words.specs.Le.{le_at, put_le};
 ghost use Rattle.words.specs.Wrap.{next};
-ghost use Rattle.layout.specs.Limits.{headerBytes};
-ghost use Rattle.layout.specs.Flags.{worth, setBit};
-ghost use Rattle.layout.specs.Header.{flagsAt, counterAt, bellAt};
+ghost use Rattle.layout.specs.Limits.{header_bytes};
+ghost use Rattle.layout.specs.Flags.{worth, set_bit};
+ghost use Rattle.layout.specs.Header.{flags_at, counter_at, bell_at};
 
 use header::Header;
 use types::{Bell, Mark, Side};
 
 // Stores a side's own counter.
 pub fn publish(region: &mut [u8], side: Side, n: u64)
-    requires { headerBytes ≤ length region.old }
-    ensures { region.new ≡ putLe 8 region.old (counterAt side) n }
+    requires { header_bytes ≤ length region.old }
+    ensures { region.new ≡ put_le 8 region.old (counter_at side) n }
 {
     words::store64(region, Header::counter_at(side), n);
 }
 
 // Adds 1 to a bell, which wraps.
 pub fn raise(region: &mut [u8], b: Bell)
-    requires { headerBytes ≤ length region.old }
-    ensures { region.new ≡ putLe 4 region.old (bellAt b) (next 32 (leAt 4 region.old (bellAt b))) }
+    requires { header_bytes ≤ length region.old }
+    ensures { region.new ≡ put_le 4 region.old (bell_at b) (next 32 (le_at 4 region.old (bell_at b))) }
 {
     let old = Header::bell(region, b);
     let new = words::raise32(old);
@@ -28,8 +28,8 @@ pub fn raise(region: &mut [u8], b: Bell)
 }
 
 pub fn set_flag(region: &mut [u8], m: Mark)
-    requires { headerBytes ≤ length region.old }
-    ensures { region.new ≡ putLe 4 region.old flagsAt (setBit (worth m) (leAt 4 region.old flagsAt)) }
+    requires { header_bytes ≤ length region.old }
+    ensures { region.new ≡ put_le 4 region.old flags_at (set_bit (worth m) (le_at 4 region.old flags_at)) }
 {
     let old = Header::flags(region);
     let new = Header::with_mark(old, m);

@@ -1,6 +1,6 @@
 -- Bytes, parties and answers summed up in a number, so that a report shows whether anything changed.
 use Rattle.std.specs.Prelude.{Bool, true, false, List, [], ◌∷◌, ℕ, ◌+◌, ◌*◌, ◌/◌, ◌%◌, ◌^◌}
-use Rattle.types.specs.Answers.{toldOf}
+use Rattle.types.specs.Answers.{told_of}
 use Rattle.types.specs.declared.Side.{Side}
 use Rattle.types.specs.declared.Side.TheVariants.{Sender, Recorder}
 use Rattle.types.specs.declared.Step.{Step}
@@ -16,13 +16,13 @@ unfoldable pub mix : (sum x : ℕ) → ℕ
 mix sum x = (sum * 0x1000193 + x + 1) % 2 ^ 32
 
 -- a word goes in by halves, for a sum takes 32 bits at a time
-unfoldable pub mixWide : (sum x : ℕ) → ℕ
-mixWide sum x = mix (mix sum (x % 2 ^ 32)) (x / 2 ^ 32)
+unfoldable pub mix_wide : (sum x : ℕ) → ℕ
+mix_wide sum x = mix (mix sum (x % 2 ^ 32)) (x / 2 ^ 32)
 
 -- each byte in its turn, so that the order shows
-unfoldable pub mixBytes : (sum : ℕ) → List ℕ → ℕ
-mixBytes sum [] = sum
-mixBytes sum (b ∷ s) = mixBytes (mix sum b) s
+unfoldable pub mix_bytes : (sum : ℕ) → List ℕ → ℕ
+mix_bytes sum [] = sum
+mix_bytes sum (b ∷ s) = mix_bytes (mix sum b) s
 
 -- two numbers of 32 bits as one word of a report
 unfoldable pub pair : (low high : ℕ) → ℕ
@@ -37,49 +37,49 @@ bit true = 1
 bit false = 0
 
 -- a step by its number alone: what it carries shows in what comes of it
-abbrev pub standOf : Step → ℕ
-standOf Rest = 0
-standOf Look = 1
-standOf Copy = 2
-standOf (Publish length tag) = 3
-standOf (Check length tag) = 4
-standOf (Raise length tag) = 5
-standOf (Wake length tag) = 6
-standOf Gate = 7
-standOf (Spin left) = 22
-standOf Epoch = 8
-standOf (Again epoch) = 9
-standOf (GateAgain epoch) = 10
-standOf (Wait epoch) = 11
-standOf Asleep = 12
-standOf (LastLook timed) = 21
-standOf CloseSet = 13
-standOf CloseRaise = 14
-standOf CloseWake = 15
-standOf (ShutSet corrupt) = 16
-standOf (ShutRaiseNe corrupt) = 17
-standOf (ShutWakeNe corrupt) = 18
-standOf (ShutRaiseNf corrupt error) = 19
-standOf (ShutWakeNf corrupt error) = 20
+abbrev pub stand_of : Step → ℕ
+stand_of Rest = 0
+stand_of Look = 1
+stand_of Copy = 2
+stand_of (Publish length tag) = 3
+stand_of (Check length tag) = 4
+stand_of (Raise length tag) = 5
+stand_of (Wake length tag) = 6
+stand_of Gate = 7
+stand_of (Spin left) = 22
+stand_of Epoch = 8
+stand_of (Again epoch) = 9
+stand_of (GateAgain epoch) = 10
+stand_of (Wait epoch) = 11
+stand_of Asleep = 12
+stand_of (LastLook timed) = 21
+stand_of CloseSet = 13
+stand_of CloseRaise = 14
+stand_of CloseWake = 15
+stand_of (ShutSet corrupt) = 16
+stand_of (ShutRaiseNe corrupt) = 17
+stand_of (ShutWakeNe corrupt) = 18
+stand_of (ShutRaiseNf corrupt error) = 19
+stand_of (ShutWakeNf corrupt error) = 20
 
 -- every field of a record, the step apart: who reads a report wants to see that one as it is
-unfoldable pub ownSum : Own → ℕ
-ownSum o = mix (mix (mix (mix (mix (whose o.side) (bit o.attached)) o.power) o.slot) (bit o.notfull)) o.spins
+unfoldable pub own_sum : Own → ℕ
+own_sum o = mix (mix (mix (mix (mix (whose o.side) (bit o.attached)) o.power) o.slot) (bit o.notfull)) o.spins
 
-unfoldable pub partySum : Party → ℕ
-partySum p = mix (mix (mix (mixWide (mix (ownSum p.own) (bit p.closed)) p.counter) (bit p.blocking)) p.tag) p.length
+unfoldable pub party_sum : Party → ℕ
+party_sum p = mix (mix (mix (mix_wide (mix (own_sum p.own) (bit p.closed)) p.counter) (bit p.blocking)) p.tag) p.length
 
-unfoldable pub partyWord : Party → ℕ
-partyWord p = pair (standOf p.step) (partySum p)
+unfoldable pub party_word : Party → ℕ
+party_word p = pair (stand_of p.step) (party_sum p)
 
 -- an answer as it is, with the kind of the record that it answers: kind, number, tag, length, error
-unfoldable pub toldWord : (kind : ℕ) → Told → ℕ
-toldWord kind t = pair (kind + 0x100 * t.number + 0x10000 * t.tag) (t.length + 0x10000 * t.error)
+unfoldable pub told_word : (kind : ℕ) → Told → ℕ
+told_word kind t = pair (kind + 0x100 * t.number + 0x10000 * t.tag) (t.length + 0x10000 * t.error)
 
 -- the bytes of a region and of a buffer, each summed for itself, so that it shows which of them changed
-unfoldable pub bytesWord : (region buffer : List ℕ) → ℕ
-bytesWord region buffer = pair (mixBytes 0 region) (mixBytes 0 buffer)
+unfoldable pub bytes_word : (region buffer : List ℕ) → ℕ
+bytes_word region buffer = pair (mix_bytes 0 region) (mix_bytes 0 buffer)
 
 -- all that came of one attach of many: the answer, the record, the region
-unfoldable pub cameSum : (sum : ℕ) → Reply → (region : List ℕ) → ℕ
-cameSum sum r region = mixBytes (mixWide (mixWide sum (toldWord 0 (toldOf r.answer))) (partyWord r.party)) region
+unfoldable pub came_sum : (sum : ℕ) → Reply → (region : List ℕ) → ℕ
+came_sum sum r region = mix_bytes (mix_wide (mix_wide sum (told_word 0 (told_of r.answer))) (party_word r.party)) region

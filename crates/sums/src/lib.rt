@@ -1,7 +1,7 @@
 // Bytes, parties and answers summed up in a number, so that a report shows whether anything changed.
 ghost use Rattle.std.specs.Prelude.{◌≡◌};
-ghost use Rattle.types.specs.Answers.{toldOf};
-ghost use Rattle.sums.specs.Sums.{mix as mixOf, mixWide, mixBytes, pair as pair_of, whose as whoseOf, standOf, ownSum, partySum, partyWord, toldWord, bytesWord, cameSum};
+ghost use Rattle.types.specs.Answers.{told_of};
+ghost use Rattle.sums.specs.Sums.{mix as mix_of, mix_wide, mix_bytes, pair as pair_of, whose as whose_of, stand_of, own_sum, party_sum, party_word, told_word, bytes_word, came_sum};
 
 use types::{Own, Party, Reply, Side, Step, Told};
 
@@ -10,13 +10,13 @@ const LIMIT: u64 = 0x1_0000_0000;
 const FACTOR: u64 = 0x100_0193;
 
 fn mix(sum: u32, x: u32) -> u32
-    ensures { result ≡ mixOf sum x }
+    ensures { result ≡ mix_of sum x }
 {
     ((sum as u64 * FACTOR + x as u64 + 1) % LIMIT) as u32
 }
 
 fn mix_wide(sum: u32, x: u64) -> u32
-    ensures { result ≡ mixWide sum x }
+    ensures { result ≡ mix_wide sum x }
 {
     let low = mix(sum, (x % LIMIT) as u32);
     mix(low, (x / LIMIT) as u32)
@@ -35,7 +35,7 @@ fn wide(x: u8) -> u32
 }
 
 fn mix_bytes(sum: u32, s: &[u8]) -> u32
-    ensures { result ≡ mixBytes sum s.now }
+    ensures { result ≡ mix_bytes sum s.now }
 {
     let mut all = sum;
     for k in 0..s.len() {
@@ -45,7 +45,7 @@ fn mix_bytes(sum: u32, s: &[u8]) -> u32
 }
 
 fn whose(side: Side) -> u32
-    ensures { result ≡ whoseOf side }
+    ensures { result ≡ whose_of side }
 {
     match side {
         Side::Sender => 0,
@@ -54,7 +54,7 @@ fn whose(side: Side) -> u32
 }
 
 fn stand_of(step: Step) -> u32
-    ensures { result ≡ standOf step }
+    ensures { result ≡ stand_of step }
 {
     match step {
         Step::Rest => 0,
@@ -84,7 +84,7 @@ fn stand_of(step: Step) -> u32
 }
 
 fn own_sum(own: Own) -> u32
-    ensures { result ≡ ownSum own }
+    ensures { result ≡ own_sum own }
 {
     let side = own.side;
     let attached = mix(whose(side), own.attached as u32);
@@ -95,7 +95,7 @@ fn own_sum(own: Own) -> u32
 }
 
 fn party_sum(p: Party) -> u32
-    ensures { result ≡ partySum p }
+    ensures { result ≡ party_sum p }
 {
     let own = p.own;
     let closed = mix(own_sum(own), p.closed as u32);
@@ -107,7 +107,7 @@ fn party_sum(p: Party) -> u32
 
 // A party's step, and the sum of the rest of its record.
 pub fn party_word(p: Party) -> u64
-    ensures { result ≡ partyWord p }
+    ensures { result ≡ party_word p }
 {
     let step = p.step;
     pair(stand_of(step), party_sum(p))
@@ -115,7 +115,7 @@ pub fn party_word(p: Party) -> u64
 
 // A kind, and the number, tag, length and error of an answer.
 pub fn told_word(kind: u8, t: Told) -> u64
-    ensures { result ≡ toldWord kind t }
+    ensures { result ≡ told_word kind t }
 {
     let low = kind as u32 + 0x100 * t.number as u32 + 0x1_0000 * t.tag as u32;
     pair(low, t.length as u32 + 0x1_0000 * t.error as u32)
@@ -123,13 +123,13 @@ pub fn told_word(kind: u8, t: Told) -> u64
 
 // The sums of a region and of a buffer.
 pub fn bytes_word(region: &[u8], buffer: &[u8]) -> u64
-    ensures { result ≡ bytesWord region.now buffer.now }
+    ensures { result ≡ bytes_word region.now buffer.now }
 {
     pair(mix_bytes(0, region), mix_bytes(0, buffer))
 }
 
 fn reply_sum(sum: u32, reply: Reply) -> u32
-    ensures { result ≡ mixWide (mixWide sum (toldWord 0 (toldOf reply.answer))) (partyWord reply.party) }
+    ensures { result ≡ mix_wide (mix_wide sum (told_word 0 (told_of reply.answer))) (party_word reply.party) }
 {
     let party = reply.party;
     let answer = reply.answer;
@@ -139,7 +139,7 @@ fn reply_sum(sum: u32, reply: Reply) -> u32
 
 // What came of an attach, summed up with what came of those before it.
 pub fn came_sum(sum: u32, reply: Reply, region: &[u8]) -> u32
-    ensures { result ≡ cameSum sum reply region.now }
+    ensures { result ≡ came_sum sum reply region.now }
 {
     mix_bytes(reply_sum(sum, reply), region)
 }

@@ -1,11 +1,11 @@
 // What becomes of a party when its turn's one access gave back a value, or was announced to fail. The region is not touched.
 ghost use Rattle.std.specs.Prelude.{◌≡◌};
-ghost use Rattle.rules.specs.Take.{stepAfter, answer_of, counterAfter, closedAfter, takeSpec};
+ghost use Rattle.rules.specs.Take.{step_after, answer_of, counter_after, closed_after, take_spec};
 
 use types::{Answer, Move, Party, Reply, Stance, Step};
 
 pub fn step_after(moved: Move, step: Step) -> Step
-    ensures { result ≡ stepAfter moved step }
+    ensures { result ≡ step_after moved step }
 {
     match moved {
         Move::Still => step,
@@ -26,7 +26,7 @@ pub fn answer_of(moved: Move) -> Answer
 
 // P3 and C3 advance the own counter, which wraps.
 pub fn counter_after(stance: Stance, counter: u64) -> u64
-    ensures { result ≡ counterAfter stance counter }
+    ensures { result ≡ counter_after stance counter }
 {
     match stance {
         Stance::Resting => counter,
@@ -40,7 +40,7 @@ pub fn counter_after(stance: Stance, counter: u64) -> u64
 
 // One's own close counts from the turn that sets its bit.
 pub fn closed_after(stance: Stance, closed: bool) -> bool
-    ensures { result ≡ closedAfter stance closed }
+    ensures { result ≡ closed_after stance closed }
 {
     match stance {
         Stance::Resting => closed,
@@ -53,7 +53,7 @@ pub fn closed_after(stance: Stance, closed: bool) -> bool
 }
 
 pub fn take(p: Party, value: u64, error: u16) -> Reply
-    ensures { result ≡ takeSpec p value error }
+    ensures { result ≡ take_spec p value error }
 {
     let own = p.own;
     let step = p.step;

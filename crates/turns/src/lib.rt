@@ -1,6 +1,6 @@
 // A turn over a lent region: what is refused is tested, and else the party acts.
 ghost use Rattle.std.specs.Prelude.{◌≡◌, []};
-ghost use Rattle.rules.specs.Turn.{refused, turnSpec, turnLeaves, turnBuffer};
+ghost use Rattle.rules.specs.Turn.{refused, turn_spec, turn_leaves, turn_buffer};
 
 use types::{Answer, Fault, Party, Side, Turned, Woke};
 
@@ -24,9 +24,9 @@ pub fn turn(
     buffer: &mut [u8],
     fault: Fault,
 ) -> Turned
-    ensures value { result ≡ turnSpec side region.old p payload.now buffer.old fault }
-    ensures leaves { region.new ≡ turnLeaves side region.old p payload.now buffer.old fault }
-    ensures given { buffer.new ≡ turnBuffer side region.old p payload.now buffer.old fault }
+    ensures value { result ≡ turn_spec side region.old p payload.now buffer.old fault }
+    ensures leaves { region.new ≡ turn_leaves side region.old p payload.now buffer.old fault }
+    ensures given { buffer.new ≡ turn_buffer side region.old p payload.now buffer.old fault }
 {
     let goes = grounds::goes(side, p, region.len(), payload.len(), buffer.len(), fault);
     let error = grounds::error_of(fault);
@@ -38,8 +38,8 @@ pub fn turn(
 
 // A sender has no buffer to be lent.
 pub fn push_turn(region: &mut [u8], p: Party, payload: &[u8], fault: Fault) -> Turned
-    ensures value { result ≡ turnSpec Side.Sender region.old p payload.now [] fault }
-    ensures leaves { region.new ≡ turnLeaves Side.Sender region.old p payload.now [] fault }
+    ensures value { result ≡ turn_spec Side.Sender region.old p payload.now [] fault }
+    ensures leaves { region.new ≡ turn_leaves Side.Sender region.old p payload.now [] fault }
 {
     let mut none = [0u8; 0];
     turn(Side::Sender, region, p, payload, &mut none, fault)
@@ -47,9 +47,9 @@ pub fn push_turn(region: &mut [u8], p: Party, payload: &[u8], fault: Fault) -> T
 
 // A recorder has no payload.
 pub fn pop_turn(region: &mut [u8], p: Party, buffer: &mut [u8], fault: Fault) -> Turned
-    ensures value { result ≡ turnSpec Side.Recorder region.old p [] buffer.old fault }
-    ensures leaves { region.new ≡ turnLeaves Side.Recorder region.old p [] buffer.old fault }
-    ensures given { buffer.new ≡ turnBuffer Side.Recorder region.old p [] buffer.old fault }
+    ensures value { result ≡ turn_spec Side.Recorder region.old p [] buffer.old fault }
+    ensures leaves { region.new ≡ turn_leaves Side.Recorder region.old p [] buffer.old fault }
+    ensures given { buffer.new ≡ turn_buffer Side.Recorder region.old p [] buffer.old fault }
 {
     let none = [0u8; 0];
     turn(Side::Recorder, region, p, &none, buffer, fault)

@@ -1,6 +1,6 @@
 // The declared types: a party and what it is told. One party struct and one step enum serve both sides.
 ghost use Rattle.std.specs.Prelude.{◌≡◌, ◌&&◌};
-ghost use Rattle.types.specs.Answers.{toldOf};
+ghost use Rattle.types.specs.Answers.{told_of};
 
 #[derive(Drop)]
 pub enum Side {
@@ -269,7 +269,7 @@ fn with_values(number: u8, tag: u16, length: u16, error: u16) -> Told
 impl Answer {
     // Document 01's number of an answer, with the values that it carries.
     pub fn told(self) -> Told
-        ensures { result ≡ toldOf self }
+        ensures { result ≡ told_of self }
     {
         match self {
             Answer::Done(length, tag) => with_values(0, tag, length, 0),

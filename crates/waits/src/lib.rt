@@ -1,13 +1,13 @@
 // Where a turn of a wait, a close or a shutdown leads, a function a step.
 ghost use Rattle.std.specs.Prelude.{◌≡◌};
 ghost use Rattle.types.specs.Pick.{pick};
-ghost use Rattle.rules.specs.Steps.{leftMove, doorMove, gateMove, toSpin, spinMove, againMove, napMove, waitMove, last_move, closeMove, shutMove};
+ghost use Rattle.rules.specs.Steps.{left_move, door_move, gate_move, to_spin, spin_move, again_move, nap_move, wait_move, last_move, close_move, shut_move};
 
 use types::{Answer, Bell, Door, Move, Nap, Own, Side, Step};
 
 // Where the other has closed, a recorder looks once more: the last note may have come before the close.
 fn left_move(side: Side) -> Move
-    ensures { result ≡ leftMove side }
+    ensures { result ≡ left_move side }
 {
     match side {
         Side::Sender => Move::End(Answer::Closed),
@@ -17,7 +17,7 @@ fn left_move(side: Side) -> Move
 
 // An open door leads onward.
 fn door_move(door: Door, side: Side, onward: Step) -> Move
-    ensures { result ≡ doorMove door side onward }
+    ensures { result ≡ door_move door side onward }
 {
     match door {
         Door::Shut => Move::End(Answer::Shutdown),
@@ -28,7 +28,7 @@ fn door_move(door: Door, side: Side, onward: Step) -> Move
 
 // B1, W1, B4 and W4.
 pub fn gate_move(own: Own, flags: u64, onward: Step) -> Move
-    ensures { result ≡ gateMove own flags onward }
+    ensures { result ≡ gate_move own flags onward }
 {
     let side = own.side;
     let door = looks::door_of(side, flags);
@@ -37,7 +37,7 @@ pub fn gate_move(own: Own, flags: u64, onward: Step) -> Move
 
 // So many spins are left before B2 and W2. A spin carries how many follow it.
 pub fn to_spin(spins: u16) -> Step
-    ensures { result ≡ toSpin spins }
+    ensures { result ≡ to_spin spins }
 {
     if spins == 0 {
         return Step::Epoch;
@@ -47,7 +47,7 @@ pub fn to_spin(spins: u16) -> Step
 
 // A spin looks as P1 and C1 do, and spins on over no room.
 pub fn spin_move(own: Own, counter: u64, their: u64, spins: u16) -> Move
-    ensures { result ≡ spinMove own counter their spins }
+    ensures { result ≡ spin_move own counter their spins }
 {
     let room = steps::room_here(own, counter, their);
     let onward = to_spin(spins);
@@ -56,14 +56,14 @@ pub fn spin_move(own: Own, counter: u64, their: u64, spins: u16) -> Move
 
 // B3 and W3.
 pub fn again_move(own: Own, counter: u64, their: u64, epoch: u32) -> Move
-    ensures { result ≡ againMove own counter their epoch }
+    ensures { result ≡ again_move own counter their epoch }
 {
     let room = steps::room_here(own, counter, their);
     steps::room_move(room, Move::To(Step::GateAgain(epoch)))
 }
 
 pub fn nap_move(nap: Nap, operation: u8, error: u16) -> Move
-    ensures { result ≡ napMove nap operation error }
+    ensures { result ≡ nap_move nap operation error }
 {
     match nap {
         Nap::Sleeps => Move::To(Step::Asleep),
@@ -75,7 +75,7 @@ pub fn nap_move(nap: Nap, operation: u8, error: u16) -> Move
 
 // B5 and W5.
 pub fn wait_move(own: Own, word: u64, error: u16, epoch: u32) -> Move
-    ensures { result ≡ waitMove own word error epoch }
+    ensures { result ≡ wait_move own word error epoch }
 {
     let side = own.side;
     let same = word == (epoch as u64);
@@ -105,7 +105,7 @@ pub fn last_move(own: Own, counter: u64, their: u64, timed: bool) -> Move
 
 // A close's first turn.
 pub fn close_move(own: Own) -> Move
-    ensures { result ≡ closeMove own }
+    ensures { result ≡ close_move own }
 {
     let side = own.side;
     let rings = sides::rings(side, own.notfull);
@@ -114,7 +114,7 @@ pub fn close_move(own: Own) -> Move
 
 // A shutdown's last turn: the first failure of its two wakes. Corruption ignores both and answers 7.
 pub fn shut_move(corrupt: bool, first: u16, error: u16) -> Move
-    ensures { result ≡ shutMove corrupt first error }
+    ensures { result ≡ shut_move corrupt first error }
 {
     let earlier = sides::wake_op(Bell::NotEmpty);
     let later = sides::wake_op(Bell::NotFull);

@@ -1,12 +1,12 @@
 // Whom a turn wakes, and what a wake makes of a party.
 ghost use Rattle.std.specs.Prelude.{◌≡◌};
-ghost use Rattle.rules.specs.Turn.{wokeWith, wokeOf};
-ghost use Rattle.rules.specs.Bench.{sameBell, hears, wakened};
+ghost use Rattle.rules.specs.Turn.{woke_with, woke_of};
+ghost use Rattle.rules.specs.Bench.{same_bell, hears, wakened};
 
 use types::{Access, Bell, Party, Side, Step, Woke};
 
 fn woke_with(failed: bool, bell: Bell) -> Woke
-    ensures { result ≡ wokeWith failed bell }
+    ensures { result ≡ woke_with failed bell }
 {
     if failed {
         return Woke::Nobody;
@@ -16,7 +16,7 @@ fn woke_with(failed: bool, bell: Bell) -> Woke
 
 // A wake alone wakes, and not where it fails.
 pub fn woke_of(a: Access, error: u16) -> Woke
-    ensures { result ≡ wokeOf a error }
+    ensures { result ≡ woke_of a error }
 {
     match a {
         Access::None => Woke::Nobody,
@@ -34,7 +34,7 @@ pub fn woke_of(a: Access, error: u16) -> Woke
 }
 
 fn same_bell(a: Bell, b: Bell) -> bool
-    ensures { result ≡ sameBell a b }
+    ensures { result ≡ same_bell a b }
 {
     match a {
         Bell::NotEmpty => match b {

@@ -11,6 +11,6 @@ zeros s zero i = true
 zeros s (suc n) i = slice_index s i == 0 && zeros s n (suc i)
 
 -- the bytes from i on are those of t
-unfoldable pub bytesAre : List ℕ → ℕ → List ℕ → Bool
-bytesAre s i [] = true
-bytesAre s i (b ∷ t) = slice_index s i == b && bytesAre s (suc i) t
+unfoldable pub bytes_are : List ℕ → ℕ → List ℕ → Bool
+bytes_are s i [] = true
+bytes_are s i (b ∷ t) = slice_index s i == b && bytes_are s (suc i) t

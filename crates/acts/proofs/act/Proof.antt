@@ -1,5 +1,5 @@
 use borrow.Author.Rules.{rules}
-use Rattle.rules.specs.Turn.{actSpec, actLeaves, actBuffer}
+use Rattle.rules.specs.Turn.{act_spec, act_leaves, act_buffer}
 use Rattle.acts.proofs.act.Statement.{statement}
 use Rattle.acts.proofs.act.Tie as tie
 
@@ -7,7 +7,7 @@ perform-requires : tie.Need-perform-requires
 perform-requires c κs = rw c.before.before.next.ensures c.before.before.before.before.before.before.before.requires
 
 returns : tie.Need-returns
-unfolding actSpec actLeaves actBuffer
+unfolding act_spec act_leaves act_buffer
 returns c =
     let n = c.before.before.before.before.before.before.before.before.before.before.next.ensures in
     let e = c.before.before.before.before.before.before.before.perform.ensures in

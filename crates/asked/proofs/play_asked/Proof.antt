@@ -1,5 +1,5 @@
 use borrow.Author.Rules.{rules}
-use Rattle.asked.specs.Played.{playedBy, regionBy, bufferBy}
+use Rattle.asked.specs.Played.{played_by, region_by, buffer_by}
 use Rattle.asked.proofs.play_asked.Statement.{statement}
 use Rattle.asked.proofs.play_asked.Tie as tie
 
@@ -10,7 +10,7 @@ returns c =
     (rw e p.0, (rw e p.1.0, rw e p.1.1))
 
 returns-2 : tie.Need-returns-2
-unfolding playedBy regionBy bufferBy
+unfolding played_by region_by buffer_by
 returns-2 c =
     let e = c.enum_told.given.1 in
     (rw e, (rw e, rw e))

@@ -1,6 +1,6 @@
 use borrow.Author.Rules.{rules}
 use mathlib.Core.Path.{◌≡◌, sym, ap, ◌∙◌}
-use Rattle.types.specs.Answers.{number, toldOf}
+use Rattle.types.specs.Answers.{number, told_of}
 use Rattle.types.specs.declared.Told.{Told}
 use Rattle.types.specs.declared.Answer.{Answer}
 use Rattle.attach.proofs.Joined.{long-enough, turned-away, joined}
@@ -8,7 +8,7 @@ use Rattle.attach.proofs.attach.Statement.{statement}
 use Rattle.attach.proofs.attach.Tie as tie
 
 -- the number tested is the answer's
-tested : (t : Told) (a s : Answer) → t ≡ toldOf a → a ≡ s → t.number ≡ number s
+tested : (t : Told) (a s : Answer) → t ≡ told_of a → a ≡ s → t.number ≡ number s
 tested t a s e f = ap (λ (x : Told). x.number) e ∙ ap number f
 
 returns : tie.Need-returns

@@ -1,10 +1,10 @@
 use borrow.Author.Rules.{rules}
-use Rattle.rules.specs.Calls.{closeSpec}
+use Rattle.rules.specs.Calls.{close_spec}
 use Rattle.calls.proofs.begin_close.Statement.{statement}
 use Rattle.calls.proofs.begin_close.Tie as tie
 
 returns : tie.Need-returns
-unfolding closeSpec
+unfolding close_spec
 returns c = simp (c.before.at.ensures, c.before.before.ready.ensures) at c.begins.ensures
 
 pub begin-close-spec : {M : Type 1} → statement M

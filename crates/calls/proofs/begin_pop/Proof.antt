@@ -1,10 +1,10 @@
 use borrow.Author.Rules.{rules}
-use Rattle.rules.specs.Calls.{popSpec}
+use Rattle.rules.specs.Calls.{pop_spec}
 use Rattle.calls.proofs.begin_pop.Statement.{statement}
 use Rattle.calls.proofs.begin_pop.Tie as tie
 
 returns : tie.Need-returns
-unfolding popSpec
+unfolding pop_spec
 returns c = simp (c.before.named.ensures, c.before.before.ready.ensures) at c.begins.ensures
 
 pub begin-pop-spec : {M : Type 1} → statement M

@@ -1,10 +1,10 @@
 use borrow.Author.Rules.{rules}
-use Rattle.rules.specs.Calls.{shutSpec}
+use Rattle.rules.specs.Calls.{shut_spec}
 use Rattle.calls.proofs.begin_shutdown.Statement.{statement}
 use Rattle.calls.proofs.begin_shutdown.Tie as tie
 
 returns : tie.Need-returns
-unfolding shutSpec
+unfolding shut_spec
 returns c = simp (c.before.at.ensures, c.before.before.ready.ensures) at c.begins.ensures
 
 pub begin-shutdown-spec : {M : Type 1} → statement M

@@ -1,10 +1,10 @@
 use borrow.Author.Rules.{rules}
-use Rattle.rules.specs.Calls.{spuriousSpec}
+use Rattle.rules.specs.Calls.{spurious_spec}
 use Rattle.calls.proofs.spurious.Statement.{statement}
 use Rattle.calls.proofs.spurious.Tie as tie
 
 returns : tie.Need-returns
-unfolding spuriousSpec
+unfolding spurious_spec
 returns c = simp (c.before.reply.ensures, c.before.before.at.ensures, c.before.before.before.sound.ensures, c.before.before.before.before.sleeps.ensures) at c.rouses.ensures
 
 pub spurious-spec : {M : Type 1} → statement M

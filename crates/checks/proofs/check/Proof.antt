@@ -1,12 +1,12 @@
 use borrow.Author.Rules.{rules}
 use borrow.Author.Tests.{le-leb, eq-eqb, ne_eqb}
 use Rattle.checks.proofs.Tests.{passed, refused}
-use Rattle.layout.specs.Attach.{regionChecks}
+use Rattle.layout.specs.Attach.{region_checks}
 use Rattle.checks.proofs.check.Statement.{statement}
 use Rattle.checks.proofs.check.Tie as tie
 
 returns : tie.Need-returns
-unfolding regionChecks
+unfolding region_checks
 returns c =
     simp (
       le-leb _ _ c.before.before.before.requires,
@@ -14,7 +14,7 @@ returns c =
     )
 
 returns-2 : tie.Need-returns-2
-unfolding regionChecks
+unfolding region_checks
 returns-2 c =
     simp (
       le-leb _ _ c.before.before.before.before.before.requires,
@@ -23,7 +23,7 @@ returns-2 c =
     )
 
 returns-3 : tie.Need-returns-3
-unfolding regionChecks
+unfolding region_checks
 returns-3 c =
     simp (
       le-leb _ _ c.before.before.before.before.before.before.before.requires,
@@ -34,7 +34,7 @@ returns-3 c =
     )
 
 returns-4 : tie.Need-returns-4
-unfolding regionChecks
+unfolding region_checks
 returns-4 c =
     simp (
       le-leb _ _ c.before.before.before.before.before.before.before.before.before.requires,
@@ -46,7 +46,7 @@ returns-4 c =
     )
 
 returns-5 : tie.Need-returns-5
-unfolding regionChecks
+unfolding region_checks
 returns-5 c =
     simp (
       le-leb _ _ c.before.before.before.before.before.before.before.before.before.before.requires,

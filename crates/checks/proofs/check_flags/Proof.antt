@@ -2,20 +2,20 @@ use borrow.Author.Rules.{rules}
 use mathlib.Core.Path.{sym, ◌∙◌}
 use borrow.Author.Tests.{lt-ltb, le-ltb}
 use Rattle.checks.proofs.Tests.{passed, refused}
-use Rattle.layout.specs.Attach.{flagChecks}
+use Rattle.layout.specs.Attach.{flag_checks}
 use Rattle.checks.proofs.check_flags.Statement.{statement}
 use Rattle.checks.proofs.check_flags.Tie as tie
 
 returns : tie.Need-returns
-unfolding flagChecks
+unfolding flag_checks
 returns c = simp (le-ltb _ _ c.if1.true)
 
 returns-2 : tie.Need-returns-2
-unfolding flagChecks
+unfolding flag_checks
 returns-2 c = simp (lt-ltb _ _ c.before.before.if1.false, refused _ _ c.before.initialised.ensures c.if2.true)
 
 returns-3 : tie.Need-returns-3
-unfolding flagChecks
+unfolding flag_checks
 returns-3 c =
     simp (
       lt-ltb _ _ c.before.before.before.before.if1.false,
@@ -24,7 +24,7 @@ returns-3 c =
     )
 
 returns-4 : tie.Need-returns-4
-unfolding flagChecks
+unfolding flag_checks
 returns-4 c =
     simp (
       lt-ltb _ _ c.before.before.before.before.if1.false,

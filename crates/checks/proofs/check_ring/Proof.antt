@@ -1,12 +1,12 @@
 use borrow.Author.Rules.{rules}
 use borrow.Author.Tests.{eq-eqb, ne_eqb}
 use Rattle.checks.proofs.Tests.{passed, refused}
-use Rattle.layout.specs.Attach.{ringChecks}
+use Rattle.layout.specs.Attach.{ring_checks}
 use Rattle.checks.proofs.check_ring.Statement.{statement}
 use Rattle.checks.proofs.check_ring.Tie as tie
 
 returns : tie.Need-returns
-unfolding ringChecks
+unfolding ring_checks
 returns c =
     simp (
       ← c.before.before.before.before.slot-size.ensures,
@@ -14,7 +14,7 @@ returns c =
     )
 
 returns-2 : tie.Need-returns-2
-unfolding ringChecks
+unfolding ring_checks
 returns-2 c =
     simp (
       ← c.before.before.before.before.before.slot-size.ensures,
@@ -24,7 +24,7 @@ returns-2 c =
     )
 
 returns-3 : tie.Need-returns-3
-unfolding ringChecks
+unfolding ring_checks
 returns-3 c =
     simp (
       ← c.before.before.before.before.before.before.before.before.slot-size.ensures,
@@ -37,7 +37,7 @@ returns-3 c =
     )
 
 returns-4 : tie.Need-returns-4
-unfolding ringChecks
+unfolding ring_checks
 returns-4 c =
     simp (
       ← c.before.before.before.before.before.before.before.before.before.before.slot-size.ensures,
@@ -51,7 +51,7 @@ returns-4 c =
     )
 
 returns-5 : tie.Need-returns-5
-unfolding ringChecks
+unfolding ring_checks
 returns-5 c =
     simp (
       ← c.before.before.before.before.before.before.before.before.before.before.before.before.slot-size.ensures,

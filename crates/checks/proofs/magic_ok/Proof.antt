@@ -1,10 +1,10 @@
 use borrow.Author.Rules.{rules}
-use Rattle.layout.specs.Attach.{magicOk}
+use Rattle.layout.specs.Attach.{magic_ok}
 use Rattle.checks.proofs.magic_ok.Statement.{statement}
 use Rattle.checks.proofs.magic_ok.Tie as tie
 
 returns : tie.Need-returns
-unfolding magicOk
+unfolding magic_ok
 returns c = c.same_bytes.ensures
 
 pub magic-ok-spec : {M : Type 1} → statement M

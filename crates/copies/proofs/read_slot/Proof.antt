@@ -2,9 +2,9 @@ use borrow.Author.Rules.{rules}
 use mathlib.Core.Path.{◌≡◌, sym, ap, ◌∙◌}
 use Prim.Native.Nat.{ℕ}
 use native.Mathlib.Omega.{arith}
-use Rattle.layout.specs.Limits.{payloadCapacity}
+use Rattle.layout.specs.Limits.{payload_capacity}
 use Rattle.layout.proofs.SizeLaws.{payload-in}
-use Rattle.rules.specs.Looks.{fitOf}
+use Rattle.rules.specs.Looks.{fit_of}
 use Rattle.rules.proofs.FitLaws.{fit-good}
 use Rattle.copies.proofs.Room.{place_in, head_in}
 use Rattle.copies.proofs.read_slot.Statement.{statement}
@@ -22,9 +22,9 @@ deliver-requires c κs =
     let h = c.before.before.before.before.head_of.result in (
       omega (arith, c.before.before.before.before.before.before.before.place.ensures, place_in s.requires.0 a.count),
       λ e.
-          let f : c.before.before.fit_of.result ≡ fitOf h (payloadCapacity a.own.slot) a.named =
-          c.before.before.fit_of.ensures ∙ ap (λ (m : ℕ). fitOf h m a.named) c.before.before.before.payload-capacity.ensures in
-          let w = fit-good h (payloadCapacity a.own.slot) a.named (sym f ∙ e) in
+          let f : c.before.before.fit_of.result ≡ fit_of h (payload_capacity a.own.slot) a.named =
+          c.before.before.fit_of.ensures ∙ ap (λ (m : ℕ). fit_of h m a.named) c.before.before.before.payload-capacity.ensures in
+          let w = fit-good h (payload_capacity a.own.slot) a.named (sym f ∙ e) in
           (payload-in a.own.slot s.requires.0.slot-in h.length w.0, omega (arith, s.requires.1)),
     )
 

@@ -2,7 +2,7 @@ use borrow.Author.Rules.{rules}
 use mathlib.Core.Path.{sym, ◌∙◌}
 use native.Mathlib.Omega.{arith}
 use borrow.Author.Tests.{not-true, not-false}
-use Rattle.layout.specs.Limits.{totalBytes}
+use Rattle.layout.specs.Limits.{total_bytes}
 use Rattle.layout.specs.Create.{created}
 use Rattle.layout.proofs.SizeLaws.{ring-room}
 use Rattle.create.proofs.Made.{bad-slot, bad-power, bad-length, made}
@@ -30,7 +30,7 @@ returns-3 c =
     (λ e. c.if3.true (omega arith))
 
 write-header-requires : tie.Need-write-header-requires
-unfolding totalBytes
+unfolding total_bytes
 write-header-requires c κs =
     let a = c.before.before.before.before.before.before.before.before.before.before.args in
     omega (arith, c.before.before.before.if3.false, c.before.before.before.before.total-bytes.ensures, c.before.before.ring-bytes.ensures, ring-room a.power a.slot)

@@ -4,7 +4,7 @@ use native.Mathlib.Omega.{arith}
 use lib.ListN.{length, take}
 use lib.Seq.{length-take-le}
 use Rattle.reports.proofs.Clamped.{lent-front}
-use Rattle.night.specs.Pieces.{blockBytes}
+use Rattle.night.specs.Pieces.{block_bytes}
 use Rattle.night.proofs.Piecewise.{left-short}
 use Rattle.night.proofs.feed.Statement.{statement}
 use Rattle.night.proofs.feed.Tie as tie
@@ -13,9 +13,9 @@ returns : tie.Need-returns
 returns c =
     let a = c.before.before.before.before.before.before.before.args in
     let p = c.feed-slices.ensures in
-    let l : length a.input.now ≡ blockBytes = c.before.before.feed-slices-arg4.given.0.1 in
+    let l : length a.input.now ≡ block_bytes = c.before.before.feed-slices-arg4.given.0.1 in
     let e : take c.before.before.before.before.before.before.least.result a.input.now ≡ take a.have a.input.now =
-    rw c.before.before.before.before.before.before.least.ensures.0 (lent-front a.input.now a.have blockBytes l) in
+    rw c.before.before.before.before.before.before.least.ensures.0 (lent-front a.input.now a.have block_bytes l) in
     let t : length (take c.before.before.before.before.before.before.least.result a.input.now) ≡ c.before.before.before.before.before.before.least.result = length-take-le c.before.before.before.before.before.before.least.result a.input.now (omega (arith, c.before.before.before.before.before.before.least.ensures.1)) in
     let q = p.1.1.1 in (
       rw e at p.0,

@@ -4,7 +4,7 @@ use Prim.Native.Nat.{◌*◌, ◌/◌}
 use native.Mathlib.Omega.{arith}
 use lib.ListN.{length, take, length-drop}
 use lib.Seq.{length-take-le}
-use Rattle.records.specs.Records.{recordBytes}
+use Rattle.records.specs.Records.{record_bytes}
 use Rattle.night.proofs.Left.{left-lies}
 use Rattle.night.proofs.feed_slices.Statement.{statement}
 use Rattle.night.proofs.feed_slices.Tie as tie
@@ -23,7 +23,7 @@ returns c =
     let a = c.before.before.before.before.before.before.before.before.before.before.before.before.before.before.before.before.before.before.before.before.before.before.before.args in
     let p = c.before.before.before.before.before.before.before.before.before.before.before.before.play-block.ensures in
     let t : length (take a.have a.input.now) ≡ a.have = length-take-le a.have a.input.now c.before.before.before.before.before.before.before.before.before.before.before.before.before.before.before.before.before.before.before.before.before.before.before.requires.2 in
-    let s = left-lies a.input.now a.have (a.have / recordBytes * recordBytes) c.before.before.before.before.before.before.before.before.before.before.before.before.before.before.before.before.before.before.before.before.before.before.before.requires.2 (omega arith) in
+    let s = left-lies a.input.now a.have (a.have / record_bytes * record_bytes) c.before.before.before.before.before.before.before.before.before.before.before.before.before.before.before.before.before.before.before.before.before.before.before.requires.2 (omega arith) in
     (p.0, (p.1, (rw s at c.before.before.shift.ensures, (rw t (omega arith), rw (length-drop, t) (omega arith)))))
 
 pub feed-slices-spec : {M : Type 1} → statement M

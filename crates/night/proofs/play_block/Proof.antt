@@ -6,10 +6,10 @@ use native.Mathlib.Omega.{arith}
 use native.Mathlib.Nat.{add-sub_cancel_left}
 use lib.ListN.{length, drop}
 use Rattle.words.proofs.Sets.{length_part}
-use Rattle.records.specs.Records.{recordBytes, payloadBytes}
-use Rattle.opening.specs.Night.{nightOf}
+use Rattle.records.specs.Records.{record_bytes, payload_bytes}
+use Rattle.opening.specs.Night.{night_of}
 use Rattle.script.specs.Script.{nights, reports}
-use Rattle.night.specs.Pieces.{wholeIn}
+use Rattle.night.specs.Pieces.{whole_in}
 use Rattle.night.proofs.Blocks.{nights-more, told_more}
 use Rattle.night.proofs.play_block.Statement.{statement}
 use Rattle.night.proofs.play_block.Tie as tie
@@ -18,11 +18,11 @@ abbrev invariant-loop : tie.invariant-loop
 invariant-loop region₀ payload₀ buffer₀ script out₀ n bench₀ k₀ region payload buffer out bench k =
     (k ≤ n)
     × (length region ≡ length region₀)
-    × (length payload ≡ payloadBytes)
-    × (length buffer ≡ payloadBytes)
+    × (length payload ≡ payload_bytes)
+    × (length buffer ≡ payload_bytes)
     × (length out ≡ length out₀)
-    × (nightOf region bench payload buffer ≡ nights k (nightOf region₀ bench₀ payload₀ buffer₀) script)
-    × (out ≡ reports k (nightOf region₀ bench₀ payload₀ buffer₀) script ++ drop (recordBytes * k) out₀)
+    × (night_of region bench payload buffer ≡ nights k (night_of region₀ bench₀ payload₀ buffer₀) script)
+    × (out ≡ reports k (night_of region₀ bench₀ payload₀ buffer₀) script ++ drop (record_bytes * k) out₀)
     × (length script < 2 ^ 64)
 
 abbrev decreases-loop : tie.decreases-loop
@@ -38,8 +38,8 @@ play-record-requires c κs =
     let a = c.before.before.before.before.before.before.before.before.before.before.before.before.args in (
       l.invariant.2,
       l.invariant.3,
-      rw add-sub_cancel_left (length_part a.script.now (recordBytes * l.k) recordBytes (omega arith)),
-      rw add-sub_cancel_left (length_part l.out (recordBytes * l.k) recordBytes (omega arith)),
+      rw add-sub_cancel_left (length_part a.script.now (record_bytes * l.k) record_bytes (omega arith)),
+      rw add-sub_cancel_left (length_part l.out (record_bytes * l.k) record_bytes (omega arith)),
     )
 
 -- the search does not look as far back as the loop's test
@@ -54,7 +54,7 @@ loop-again c =
     let p = c.before.before.before.before.before.before.before.before.play-record in
     let l = c.before.before.before.before.before.before.before.before.before.before.before.before.before.before.before.loop in
     let a = c.before.before.before.before.before.before.before.before.before.before.before.before.before.before.before.before.before.before.before.before.before.args in
-    let w = nightOf a.region.now a.b a.payload.now a.buffer.now in
+    let w = night_of a.region.now a.b a.payload.now a.buffer.now in
     let t = simp (add-sub_cancel_left, l.invariant.5) at p.ensures.1 in (
       omega (arith, c.before.before.before.before.before.before.before.before.before.before.before.before.before.before.loop-test.true),
       omega (arith, p.auto),
@@ -69,7 +69,7 @@ loop-again c =
 returns : tie.Need-returns invariant-loop decreases-loop
 returns c =
     let l = c.before.loop in
-    let e : l.k ≡ wholeIn c.before.before.before.before.before.before.before.args.script.now = omega arith in
+    let e : l.k ≡ whole_in c.before.before.before.before.before.before.before.args.script.now = omega arith in
     (rw e at l.invariant.5, rw e at l.invariant.6)
 
 pub play-block-spec : {M : Type 1} → statement M

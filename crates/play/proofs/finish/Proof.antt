@@ -1,10 +1,10 @@
 use borrow.Author.Rules.{rules}
-use Rattle.records.specs.Records.{cutReport}
+use Rattle.records.specs.Records.{cut_report}
 use Rattle.play.proofs.finish.Statement.{statement}
 use Rattle.play.proofs.finish.Tie as tie
 
 slice-aggregate-tell : tie.Need-slice-aggregate-tell
-unfolding cutReport
+unfolding cut_report
 slice-aggregate-tell c = rw c.before.cut-report.ensures
 
 pub finish_spec : {M : Type 1} → statement M

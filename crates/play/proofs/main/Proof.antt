@@ -4,14 +4,14 @@ use Prim.Native.Nat.{◌≤◌, ◌<◌, ◌-◌, ◌^◌}
 use native.Mathlib.Omega.{arith}
 use lib.ListN.{length}
 use lib.Seq.{length-take-le}
-use Rattle.records.specs.Records.{recordBytes}
-use Rattle.night.specs.Pieces.{blockBytes}
+use Rattle.records.specs.Records.{record_bytes}
+use Rattle.night.specs.Pieces.{block_bytes}
 use Rattle.play.proofs.main.Statement.{statement}
 use Rattle.play.proofs.main.Tie as tie
 
 abbrev invariant-loop : tie.invariant-loop
 invariant-loop region₀ payload₀ buffer₀ input₀ out₀ bench₀ left₀ reads₀ t13 region payload buffer input out bench left reads =
-    (length input ≡ blockBytes) × (length out ≡ blockBytes) × (left < recordBytes) × (reads ≤ 2 ^ 62)
+    (length input ≡ block_bytes) × (length out ≡ block_bytes) × (left < record_bytes) × (reads ≤ 2 ^ 62)
 
 abbrev decreases-loop : tie.decreases-loop
 decreases-loop region₀ payload₀ buffer₀ input₀ out₀ bench₀ left₀ reads₀ t13 region payload buffer input out bench left reads = 2 ^ 62 - reads

@@ -1,38 +1,38 @@
 use borrow.Author.Tests.{ne_eqb}
-use Rattle.records.specs.Records.{actionOf}
+use Rattle.records.specs.Records.{action_of}
 use Rattle.records.proofs.action_of.Statement.{statement}
 use Rattle.records.proofs.action_of.Tie as tie
 
 returns : tie.Need-returns
-unfolding actionOf
+unfolding action_of
 returns c = rw c.match.keys1
 
 returns-2 : tie.Need-returns-2
-unfolding actionOf
+unfolding action_of
 returns-2 c = rw c.match.keys2
 
 returns-3 : tie.Need-returns-3
-unfolding actionOf
+unfolding action_of
 returns-3 c = rw c.match.keys3
 
 returns-4 : tie.Need-returns-4
-unfolding actionOf
+unfolding action_of
 returns-4 c = rw c.match.keys4
 
 returns-5 : tie.Need-returns-5
-unfolding actionOf
+unfolding action_of
 returns-5 c = rw c.match.keys5
 
 returns-6 : tie.Need-returns-6
-unfolding actionOf
+unfolding action_of
 returns-6 c = rw c.match.keys6
 
 returns-7 : tie.Need-returns-7
-unfolding actionOf
+unfolding action_of
 returns-7 c = rw c.match.keys7
 
 returns-8 : tie.Need-returns-8
-unfolding actionOf
+unfolding action_of
 returns-8 c =
     let p = c.before.args.pair in
     let n = c.match.rest in

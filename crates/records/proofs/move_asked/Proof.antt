@@ -7,11 +7,11 @@ use lib.Dec.{leb}
 use Rattle.types.specs.declared.Side.{Side}
 use Rattle.types.specs.declared.Side.TheVariants.{Sender, Recorder}
 use Rattle.records.specs.declared.Asked.TheVariants.{Bad}
-use Rattle.records.specs.Records.{moveAsked}
+use Rattle.records.specs.Records.{move_asked}
 use Rattle.records.proofs.move_asked.Statement.{statement}
 use Rattle.records.proofs.move_asked.Tie as tie
 
-unknown-mode : (side : Side) (mode tag length : ℕ) → leb mode 1 ≡ false → moveAsked side mode tag length ≡ Bad
+unknown-mode : (side : Side) (mode tag length : ℕ) → leb mode 1 ≡ false → move_asked side mode tag length ≡ Bad
 unknown-mode Sender mode tag length e = rw e
 unknown-mode Recorder mode tag length e = rw e
 

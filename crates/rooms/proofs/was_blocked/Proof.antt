@@ -1,14 +1,14 @@
 use borrow.Author.Rules.{rules}
-use Rattle.rules.specs.Looks.{wasBlocked}
+use Rattle.rules.specs.Looks.{was_blocked}
 use Rattle.rooms.proofs.was_blocked.Statement.{statement}
 use Rattle.rooms.proofs.was_blocked.Tie as tie
 
 returns : tie.Need-returns
-unfolding wasBlocked
+unfolding was_blocked
 returns c = rw (c.enum_told.given.1, c.before.before.ahead64.ensures)
 
 returns-2 : tie.Need-returns-2
-unfolding wasBlocked
+unfolding was_blocked
 returns-2 c = rw (c.before.enum-told2.given.1, c.ahead642.ensures, c.before.before.before.ahead64.ensures)
 
 pub was-blocked-spec : {M : Type 1} → statement M

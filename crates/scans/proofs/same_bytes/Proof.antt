@@ -4,7 +4,7 @@ use borrow.Author.Rules.{rules}
 use borrow.Author.Count.{below_more}
 use native.Mathlib.Omega.{arith}
 use lib.ListN.{length, get_or}
-use Rattle.words.proofs.Runs.{bytesAre-true, bytesAre-false}
+use Rattle.words.proofs.Runs.{bytes_are-true, bytes_are-false}
 use Rattle.scans.proofs.same_bytes.Statement.{statement}
 use Rattle.scans.proofs.same_bytes.Tie as tie
 
@@ -17,7 +17,7 @@ decreases-loop s at t k₀ k-end k = length t - k
 returns : tie.Need-returns invariant-loop decreases-loop
 returns c =
     let a = c.before.before.before.before.before.args in
-    sym (bytesAre-false a.s.now a.at a.t.now c.before.before.before.before.loop.k (omega arith) c.if1.true)
+    sym (bytes_are-false a.s.now a.at a.t.now c.before.before.before.before.loop.k (omega arith) c.if1.true)
 
 loop-again : tie.Need-loop-preserved invariant-loop decreases-loop
 loop-again c = (search rules, below_more _ _ c.before.before.before.before.loop.invariant.1 c.if1.false)
@@ -25,7 +25,7 @@ loop-again c = (search rules, below_more _ _ c.before.before.before.before.loop.
 returns-2 : tie.Need-returns-2 invariant-loop decreases-loop
 returns-2 c =
     let a = c.before.before.args in
-    sym (bytesAre-true a.s.now a.at a.t.now (λ j h. c.before.loop.invariant.1 j (omega arith)))
+    sym (bytes_are-true a.s.now a.at a.t.now (λ j h. c.before.loop.invariant.1 j (omega arith)))
 
 pub same-bytes-spec : {M : Type 1} → statement M
 same-bytes-spec =

@@ -1,6 +1,6 @@
 use borrow.Author.Rules.{rules}
 use native.Mathlib.Omega.{arith}
-use Rattle.script.specs.Script.{after, reported, payloadBy}
+use Rattle.script.specs.Script.{after, reported, payload_by}
 use Rattle.script.proofs.play_record.Statement.{statement}
 use Rattle.script.proofs.play_record.Tie as tie
 
@@ -8,7 +8,7 @@ report-of-requires : tie.Need-report-of-requires
 report-of-requires c κs = (omega (arith, c.before.before.before.before.before.before.before.before.before.before.before.before.before.before.before.before.before.before.before.before.before.before.before.requires, c.before.before.before.before.before.before.before.before.before.before.before.before.before.play-asked.auto), c.before.before.before.before.before.before.before.before.before.before.before.before.before.before.before.before.before.before.before.before.before.before.before.requires.3)
 
 returns : tie.Need-returns
-unfolding after reported payloadBy
+unfolding after reported payload_by
 returns c =
     let p = c.before.before.before.before.before.before.before.before.before.before.before.before.before.before.before.before.before.play-asked.ensures in
     let q = c.before.before.before.before.before.before.before.before.before.before.before.before.before.before.before.before.before.before.before.before.before.asked_in.ensures in

@@ -1,16 +1,16 @@
 use borrow.Author.Rules.{rules}
 use native.Mathlib.Omega.{arith}
-use Rattle.layout.specs.Limits.{ringBytes}
+use Rattle.layout.specs.Limits.{ring_bytes}
 use Rattle.layout.proofs.SizeLaws.{ring-room}
 use Rattle.sizes.proofs.ring_bytes.Statement.{statement}
 use Rattle.sizes.proofs.ring_bytes.Tie as tie
 
 mul-result : tie.Need-overflow-mul-result
-unfolding ringBytes
+unfolding ring_bytes
 mul-result c = rw c.capacity.ensures (omega (arith, ring-room c.before.args.power c.before.args.slot))
 
 returns : tie.Need-returns
-unfolding ringBytes
+unfolding ring_bytes
 returns c = rw c.capacity.ensures
 
 pub ring-bytes-spec : {M : Type 1} → statement M

@@ -1,10 +1,10 @@
 use borrow.Author.Rules.{rules}
-use Rattle.layout.specs.Slots.{bufferPut}
+use Rattle.layout.specs.Slots.{buffer_put}
 use Rattle.slots.proofs.read_payload.Statement.{statement}
 use Rattle.slots.proofs.read_payload.Tie as tie
 
 returns : tie.Need-returns
-unfolding bufferPut
+unfolding buffer_put
 returns c = c.before.before.copy-out.ensures
 
 pub read-payload-spec : {M : Type 1} → statement M

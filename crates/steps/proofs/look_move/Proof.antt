@@ -1,10 +1,10 @@
 use borrow.Author.Rules.{rules}
-use Rattle.rules.specs.Steps.{lookMove}
+use Rattle.rules.specs.Steps.{look_move}
 use Rattle.steps.proofs.look_move.Statement.{statement}
 use Rattle.steps.proofs.look_move.Tie as tie
 
 returns : tie.Need-returns
-unfolding lookMove
+unfolding look_move
 returns c = rw (c.room-move.ensures, c.before.before.room-here.ensures, c.before.blocked-move.ensures)
 
 pub look-move-spec : {M : Type 1} → statement M

@@ -1,10 +1,10 @@
 use borrow.Author.Rules.{rules}
-use Rattle.rules.specs.Steps.{wakeMove}
+use Rattle.rules.specs.Steps.{wake_move}
 use Rattle.steps.proofs.wake_move.Statement.{statement}
 use Rattle.steps.proofs.wake_move.Tie as tie
 
 returns : tie.Need-returns
-unfolding wakeMove
+unfolding wake_move
 returns c = rw (c.unless-failed.ensures, c.before.wake-op.ensures, c.before.before.ring-bell.ensures)
 
 pub wake-move-spec : {M : Type 1} → statement M

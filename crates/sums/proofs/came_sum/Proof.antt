@@ -1,10 +1,10 @@
 use borrow.Author.Rules.{rules}
-use Rattle.sums.specs.Sums.{cameSum}
+use Rattle.sums.specs.Sums.{came_sum}
 use Rattle.sums.proofs.came_sum.Statement.{statement}
 use Rattle.sums.proofs.came_sum.Tie as tie
 
 returns : tie.Need-returns
-unfolding cameSum
+unfolding came_sum
 returns c = rw (c.mix-bytes.ensures, c.before.reply-sum.ensures)
 
 pub came-sum-spec : {M : Type 1} → statement M

@@ -4,26 +4,26 @@ use borrow.Author.Rules.{rules}
 use native.Mathlib.Omega.{arith}
 use lib.ListN.{length, take}
 use lib.Seq.{take_all}
-use Rattle.sums.specs.Sums.{mixBytes}
-use Rattle.sums.proofs.Turns.{mixBytes-more}
+use Rattle.sums.specs.Sums.{mix_bytes}
+use Rattle.sums.proofs.Turns.{mix_bytes-more}
 use Rattle.sums.proofs.mix_bytes.Statement.{statement}
 use Rattle.sums.proofs.mix_bytes.Tie as tie
 
 abbrev invariant-loop : tie.invariant-loop
-invariant-loop sum s all₀ k₀ k-end all k = (k ≤ length s) × (all ≡ mixBytes sum (take k s))
+invariant-loop sum s all₀ k₀ k-end all k = (k ≤ length s) × (all ≡ mix_bytes sum (take k s))
 
 abbrev decreases-loop : tie.decreases-loop
 decreases-loop sum s all₀ k₀ k-end all k = length s - k
 
 loop-holds : tie.Need-loop-init invariant-loop decreases-loop
-unfolding mixBytes
+unfolding mix_bytes
 loop-holds c = search rules
 
 loop-again : tie.Need-loop-preserved invariant-loop decreases-loop
 loop-again c =
     let a = c.before.before.before.before.before.before.args in
     let l = c.before.before.before.before.loop in
-    (search rules, c.mix.ensures ∙ rw (c.before.wide.ensures, l.invariant.1) (mixBytes-more a.sum a.s.now l.k (omega arith)))
+    (search rules, c.mix.ensures ∙ rw (c.before.wide.ensures, l.invariant.1) (mix_bytes-more a.sum a.s.now l.k (omega arith)))
 
 returns : tie.Need-returns invariant-loop decreases-loop
 returns c =

@@ -1,10 +1,10 @@
 use borrow.Author.Rules.{rules}
-use Rattle.sums.specs.Sums.{toldWord}
+use Rattle.sums.specs.Sums.{told_word}
 use Rattle.sums.proofs.told_word.Statement.{statement}
 use Rattle.sums.proofs.told_word.Tie as tie
 
 returns : tie.Need-returns
-unfolding toldWord
+unfolding told_word
 returns c = c.pair.ensures
 
 pub told-word-spec : {M : Type 1} → statement M

@@ -1,7 +1,7 @@
 use borrow.Author.Rules.{rules}
 use mathlib.Core.Path.{sym, ◌∙◌}
 use lib.ListN.{length}
-use Rattle.rules.specs.Turn.{turnSpec, turnLeaves, turnBuffer}
+use Rattle.rules.specs.Turn.{turn_spec, turn_leaves, turn_buffer}
 use Rattle.turns.proofs.Goes.{fitted}
 use Rattle.turns.proofs.turn.Statement.{statement}
 use Rattle.turns.proofs.turn.Tie as tie
@@ -12,14 +12,14 @@ act-requires c κs =
     fitted a.side a.p (length a.region.now) (length a.payload.now) (length a.buffer.now) a.fault (sym c.before.before.before.before.goes.ensures ∙ c.before.before.if1.true)
 
 returns : tie.Need-returns
-unfolding turnSpec turnLeaves turnBuffer
+unfolding turn_spec turn_leaves turn_buffer
 returns c =
     let g = sym c.before.before.before.before.before.before.before.before.before.goes.ensures ∙ c.before.before.before.before.before.before.before.if1.true in
     let e = c.before.before.before.before.act.ensures in
     (rw (g, ← c.before.before.before.before.before.before.before.before.error-of.ensures) e.0, (rw g e.1.0, rw g e.1.1))
 
 returns-2 : tie.Need-returns-2
-unfolding turnSpec turnLeaves turnBuffer
+unfolding turn_spec turn_leaves turn_buffer
 returns-2 c =
     let g = sym c.before.before.before.goes.ensures ∙ c.before.if1.false in
     (rw g c.refused.ensures, (rw g, rw g))

@@ -1,10 +1,10 @@
 use borrow.Author.Rules.{rules}
-use Rattle.rules.specs.Steps.{againMove}
+use Rattle.rules.specs.Steps.{again_move}
 use Rattle.waits.proofs.again_move.Statement.{statement}
 use Rattle.waits.proofs.again_move.Tie as tie
 
 returns : tie.Need-returns
-unfolding againMove
+unfolding again_move
 returns c = rw (c.room-move.ensures, c.before.room-here.ensures)
 
 pub again-move-spec : {M : Type 1} → statement M

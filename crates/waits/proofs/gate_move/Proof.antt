@@ -1,10 +1,10 @@
 use borrow.Author.Rules.{rules}
-use Rattle.rules.specs.Steps.{gateMove}
+use Rattle.rules.specs.Steps.{gate_move}
 use Rattle.waits.proofs.gate_move.Statement.{statement}
 use Rattle.waits.proofs.gate_move.Tie as tie
 
 returns : tie.Need-returns
-unfolding gateMove
+unfolding gate_move
 returns c = rw (c.door-move.ensures, c.before.door-of.ensures)
 
 pub gate-move-spec : {M : Type 1} → statement M

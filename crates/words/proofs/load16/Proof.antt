@@ -1,10 +1,10 @@
 use Rattle.std.proofs.Common.{add-one, arith, rules}
-use Rattle.words.specs.Le.{leAt}
+use Rattle.words.specs.Le.{le_at}
 use Rattle.words.proofs.load16.Statement.{statement}
 use Rattle.words.proofs.load16.Tie as tie
 
 returns : tie.Need-returns
-unfolding leAt
+unfolding le_at
 returns c = rw (← add-one c.before.before.before.before.before.args.i) (omega arith)
 
 pub load16-spec : {M : Type 1} → statement M

@@ -1,10 +1,10 @@
 use Rattle.std.proofs.Common.{arith, rules}
-use Rattle.words.specs.Le.{leAt}
+use Rattle.words.specs.Le.{le_at}
 use Rattle.words.proofs.load8.Statement.{statement}
 use Rattle.words.proofs.load8.Tie as tie
 
 returns : tie.Need-returns
-unfolding leAt
+unfolding le_at
 returns c = omega arith
 
 pub load8-spec : {M : Type 1} → statement M

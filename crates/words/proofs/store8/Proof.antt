@@ -1,10 +1,10 @@
 use Rattle.std.proofs.Common.{◌≡◌, ◌%◌, arith, rules}
-use Rattle.words.specs.Le.{putLe, le_bytes}
+use Rattle.words.specs.Le.{put_le, le_bytes}
 use Rattle.words.proofs.store8.Statement.{statement}
 use Rattle.words.proofs.store8.Tie as tie
 
 returns : tie.Need-returns
-unfolding putLe le_bytes
+unfolding put_le le_bytes
 returns c =
     let e : c.args.x % 256 ≡ c.args.x = omega arith in
     rw e
