@@ -4,9 +4,7 @@ use std::collections::HashSet;
 
 use reference::dice::Dice;
 use reference::explore::afterwards::afterwards;
-use reference::explore::bounds::{
-    most_to_no_room, states, to_no_room, to_rest, to_sleep, Counter, Stretch,
-};
+use reference::explore::bounds::{states, to_no_room, to_rest, to_sleep, Counter, Stretch};
 use reference::explore::lost;
 use reference::explore::normal::normal;
 use reference::explore::{needed, Claim, Event, Machine, Meddling, Menu, State, Turns, Walk};
@@ -182,23 +180,23 @@ fn a_state_and_its_normal_form_go_on_alike() {
     }
 }
 
-/// T2's and T4's bounds are kept, for few spins as for none, and reached with not-full on, T2's with
-/// the other stopped at whatever step. With not-full off no push waits and no pop rings.
+/// T2's and T4's bounds are kept, for few spins as for none. T2's is reached where all slots are
+/// room and the party rings; T4's where both sides ring.
 fn bounds(mut machine: Machine, side: Side, menu: Menu) {
     let not_full = machine.start().bench.sender.not_full;
     let found = states(&mut machine, menu);
-    let capacity = machine.capacity();
+    let capacity = machine.capacity() as u32;
     for k in 1..=capacity {
-        let most = to_no_room(&mut machine, &found, side, menu, k).turns;
-        let expected = match (not_full, side) {
-            (true, _) => most_to_no_room(k, capacity - k),
-            (false, Side::Sender) if capacity - k > 1 => 4 * k as u32,
-            (false, Side::Sender) => most_to_no_room(k, capacity - k),
-            (false, Side::Recorder) => 3 * k as u32 + 2,
-        };
+        let most = to_no_room(&mut machine, &found, side, menu, k.into()).turns;
+        let bound = 4 * k + 3;
+        assert!(
+            most.unwrap() <= bound,
+            "capacity {capacity}, {side:?}, k = {k}"
+        );
+        let reached = k == capacity && (not_full || side == Side::Sender);
         assert_eq!(
-            most,
-            Some(expected),
+            most == Some(bound),
+            reached,
             "capacity {capacity}, {side:?}, k = {k}"
         );
     }

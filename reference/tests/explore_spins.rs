@@ -35,7 +35,7 @@ fn the_numbers_are_reached_for_every_count() {
         for side in SIDES {
             let numbers = most(Turns::by::<Mended>(), spins, side);
             let bounds = [
-                most_to_no_room(2, 0),
+                most_to_no_room(2),
                 most_to_rest(side, spins),
                 most_to_sleep(spins),
                 most_from_look(spins),

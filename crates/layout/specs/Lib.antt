@@ -4,4 +4,3 @@ pub mod Header
 pub mod Slots
 pub mod Create
 pub mod Attach
-pub mod Whole

@@ -66,16 +66,12 @@ pub data Onward : (spins : ℕ) → Step → Type 0 where
   straight : Onward 0 Epoch
   around : (n : ℕ) → Onward (suc n) (Spin n)
 
-pub more-spins : (n : ℕ) → to_spin (suc n) ≡ Spin n
-unfolding to_spin
-more-spins n =
-    let e : suc n - 1 ≡ n = omega arith in
-    rw (ne_eqb (suc n) 0 (λ q. omega arith), e)
-
 pub onward : (n : ℕ) → Onward n (to_spin n)
 unfolding to_spin
 onward zero = straight
-onward (suc n) = rw (more-spins n) (around n)
+onward (suc n) =
+    let e : suc n - 1 ≡ n = omega arith in
+    rw (ne_eqb (suc n) 0 (λ q. omega arith), e) (around n)
 
 pub asks : (n : ℕ) (t : Step) → Onward n t → phase t ≡ asking
 asks n t straight = refl

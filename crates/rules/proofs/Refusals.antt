@@ -13,7 +13,6 @@ use Rattle.types.specs.declared.Party.{Party}
 use Rattle.types.specs.declared.Reply.{Reply}
 use Rattle.types.specs.declared.Turned.{Turned}
 use Rattle.types.specs.declared.Fault.{Fault}
-use Rattle.types.specs.declared.Event.TheVariants.{Turn, Failing, Spurious, TimeOut, Push, Pop, Close, Shutdown as Shut}
 use Rattle.types.specs.declared.Step.{Step}
 use Rattle.types.specs.declared.Step.TheVariants.{Rest, Look, LastLook, CloseSet, ShutSet}
 use Rattle.types.specs.declared.Answer.{Answer}
@@ -26,8 +25,7 @@ use Rattle.rules.specs.Take.{stance_of}
 use Rattle.rules.specs.Calls.{is_resting, is_sleeping, sound, ready, reply, at, named, begins, rouses, push_spec, pop_spec, close_spec, shut_spec, spurious_spec, timeout_spec}
 use Rattle.rules.specs.Turn.{taken, refused, turn_spec, turn_leaves, turn_buffer}
 use Rattle.rules.specs.Given.{Checked, passed, fails, holds, Ask, create, attach, turn, Given, created, attached, push-bad, pop-bad, close-bad, shutdown-bad, spurious-bad, timeout-bad, turn-bad, push-closed, pop-closed, close-closed, push-off, push-long, push_begun, pop-begun, close-begun, shutdown-begun, spurious-idle, timeout-idle, spurious-taken, timeout-taken, turn-taken}
-use Rattle.rules.specs.Leaves.{AtRest, Unchanged, Leaves, LeavesAll, BenchAsks}
-use Rattle.rules.specs.Bench.{played, played_leaves, played_buffer, settled, turned}
+use Rattle.rules.specs.Leaves.{AtRest, Unchanged, Leaves, LeavesAll}
 use Rattle.rules.proofs.Views.{resting-step}
 use Rattle.rules.proofs.Answered.{given-first}
 use Rattle.rules.proofs.Leaving.{ends-leaves}
@@ -239,15 +237,3 @@ given-leaves (turn-taken {side} {r} {p} {i} {o} {f} h e) = ends-leaves side r p 
 
 pub leaves_all : LeavesAll
 leaves_all a = given-leaves (given-first a)
-
--- a bench answers and leaves what the call or the turn does
-pub bench-asks : BenchAsks
-unfolding played played_leaves played_buffer settled turned
-bench-asks r b i o (Turn side) = (refl, (refl, refl))
-bench-asks r b i o (Failing side e) = (refl, (refl, refl))
-bench-asks r b i o (Spurious side) = (refl, (refl, refl))
-bench-asks r b i o (TimeOut side) = (refl, (refl, refl))
-bench-asks r b i o (Push k t l) = (refl, (refl, refl))
-bench-asks r b i o (Pop k l) = (refl, (refl, refl))
-bench-asks r b i o (Close side) = (refl, (refl, refl))
-bench-asks r b i o (Shut side) = (refl, (refl, refl))

@@ -16,8 +16,3 @@ pub mod Phase
 pub mod Premises
 pub mod Stretch
 pub mod Claims
-pub mod Both
-pub mod Asked
-pub mod Grounds
-pub mod Anywhere
-pub mod Meaning

@@ -16,24 +16,20 @@ use Rattle.types.specs.Answers.{first_of}
 use Rattle.types.specs.declared.Side.{Side}
 use Rattle.types.specs.declared.Room.TheVariants.{Corrupt}
 use Rattle.types.specs.declared.Answer.{Answer}
-use Rattle.types.specs.declared.Answer.TheVariants.{Done, InvalidCapacity, BadCall}
+use Rattle.types.specs.declared.Answer.TheVariants.{Done, BadCall}
 use Rattle.layout.specs.Limits.{most_power, most_slot, power_ok, slot_ok, spins_ok, capacity, payload_capacity, ring_bytes, total_bytes}
 use Rattle.layout.specs.Slots.{slot_at}
 use Rattle.layout.specs.Create.{create_answer}
 use Rattle.layout.specs.Attach.{flag_checks, region_checks, attach_checks, attach_answer}
 use Rattle.layout.proofs.SizeLaws.{capacity-most, slot-most, total-most}
-use Rattle.layout.specs.Whole.{size_checks}
-use Rattle.layout.proofs.Accepted.{spins-taken, attach-headed, accepted as accepted-by}
+use Rattle.layout.proofs.Accepted.{size_checks, spins-taken, attach-headed, accepted as accepted-by}
 use Rattle.rules.specs.Looks.{room_with, room_of}
-use Rattle.starred.specs.Cases.{Case, accepted, largest, refused, flagged, spinning, overspun, used, corrupt, place, bell, slot_refused, power_refused, Whole, Largest, Spinning, Overspun, CorruptAt, Raised, Holds, AllHold, starred}
+use Rattle.starred.specs.Cases.{Case, accepted, largest, refused, flagged, spinning, overspun, used, corrupt, place, bell, Largest, Spinning, Overspun, CorruptAt, Raised, Holds, AllHold, starred}
 
 -- What is left to compute of each row; the laws do the rest, so the table's sizes stand in the table alone.
 abbrev Shown : Case → Type 0
 Shown (accepted power slot total payload) = (total_bytes power slot ≡ total) × (payload_capacity slot ≡ payload) × (create_answer total power slot ≡ Done 0 0)
 Shown (largest total payload) = (total_bytes most_power most_slot ≡ total) × (payload_capacity most_slot ≡ payload)
-Shown (slot_refused slot answer) =
-    ((bytes power : ℕ) → create_answer bytes power slot ≡ answer) × ((ring power flags : ℕ) (side : Side) → first_of (size_checks ring power slot flags side) ≡ answer)
-Shown (power_refused power answer) = (power_ok power ≡ false) × (answer ≡ InvalidCapacity)
 Shown (refused power slot answer) =
     ((bytes : ℕ) → create_answer bytes power slot ≡ answer) × ((ring flags : ℕ) (side : Side) → first_of (size_checks ring power slot flags side) ≡ answer)
 Shown (flagged flags answer) = (side : Side) → first_of (flag_checks flags side) ≡ answer
@@ -72,14 +68,10 @@ many spins answer c r side = c (first_of (region_checks r side))
 -- What create makes of accepted sizes, attach accepts; a count decides before all the rest, refused sizes before the rest
 -- of the header, and flags last; the start of the counters does not matter.
 shown : (c : Case) → Shown c → Holds c
-unfolding room_of create_answer
+unfolding room_of
 shown (accepted power slot total payload) (t, p, c) =
     (t, p, c, λ r notfull start side spins long small few. accepted-by r power slot notfull start (rw long c) small side spins few)
 shown (largest total payload) (t, p) = most total payload t p
-shown (slot_refused slot answer) (c, s) = λ power.
-    ((λ bytes. c bytes power), λ r ring flags start side spins f few. attach-headed r ring power slot flags start f side spins few ∙ s ring power flags side)
-shown (power_refused power answer) (p, a) = λ slot s.
-    ((λ bytes. rw (s, p, a)), λ r ring flags start side spins f few. attach-headed r ring power slot flags start f side spins few ∙ rw (s, p, a))
 shown (refused power slot answer) (c, s) = (c, λ r ring flags start side spins f few. attach-headed r ring power slot flags start f side spins few ∙ s ring flags side)
 shown (flagged flags answer) c = λ r power slot start side spins p s few f.
     attach-headed r (ring_bytes power slot) power slot flags start f side spins few
@@ -118,11 +110,11 @@ reading-most n e = by (ltb n (2 ^ 31)) e
 
 minus_one : Raised (negsuc 0) (pos 0)
 unfolding plus
-minus_one = ((2 ^ 32 - 1, (lit< tt, refl)), λ n h e. rw (reading-one n h e))
+minus_one n h e = rw (reading-one n h e)
 
 top : Raised (pos 2147483647) (negsuc 2147483647)
 unfolding plus
-top = ((2147483647, (lit< tt, refl)), λ n h e. rw (reading-most n e))
+top n h e = rw (reading-most n e)
 
 pub holds : AllHold starred
 unfolding create_answer slot_ok power_ok spins_ok capacity payload_capacity ring_bytes total_bytes slot_at flag_checks plus minus
@@ -130,13 +122,12 @@ holds =
     all_shown {cs = starred}
     ((refl, refl, refl)
     ⁏ (refl, refl, refl)
-    ⁏ (refl, refl, refl)
     ⁏ (refl, refl)
-    ⁏ (refl, refl)
-    ⁏ (refl, refl)
-    ⁏ ((λ b p. refl), (λ r p f s. refl))
-    ⁏ ((λ b p. refl), (λ r p f s. refl))
-    ⁏ ((λ b p. refl), (λ r p f s. refl))
+    ⁏ ((λ b. refl), (λ r f s. refl))
+    ⁏ ((λ b. refl), (λ r f s. refl))
+    ⁏ ((λ b. refl), (λ r f s. refl))
+    ⁏ ((λ b. refl), (λ r f s. refl))
+    ⁏ ((λ b. refl), (λ r f s. refl))
     ⁏ ((λ b. refl), (λ r f s. refl))
     ⁏ (lit< tt, refl, refl)
     ⁏ (lit< tt, refl, refl)
@@ -148,6 +139,3 @@ holds =
     ⁏ refl
     ⁏ (λ a. refl)
     ⁏ end)
-
-pub whole : Whole starred
-whole = refl

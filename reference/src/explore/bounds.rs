@@ -32,6 +32,12 @@ pub struct Counter<'a> {
     known: HashMap<State, Option<Most>>,
 }
 
+/// A turn counts where it answers neither 20 nor 253; nothing else is a turn.
+fn counts(event: Event, answer: Answer) -> bool {
+    let turn = matches!(event, Event::Turn(_) | Event::Fails(..));
+    turn && !matches!(answer, Answer::BadCall | Answer::Nothing)
+}
+
 impl<'a> Counter<'a> {
     pub fn new(machine: &'a mut Machine, stretch: Stretch) -> Self {
         Counter {
@@ -62,7 +68,7 @@ impl<'a> Counter<'a> {
         };
         for event in self.stretch.menu.offers_to(state, self.stretch.side) {
             let (after, answer) = self.after(state, event);
-            let turns = self.most(&after)? + u32::from(event.counts(answer));
+            let turns = self.most(&after)? + u32::from(counts(event, answer));
             if most.event.is_none() || turns > most.turns {
                 let event = Some(event);
                 most = Most { turns, event };
@@ -81,7 +87,7 @@ impl<'a> Counter<'a> {
         })) = self.known.get(&state).copied()
         {
             let (after, answer) = self.after(&state, event);
-            if event.counts(answer) {
+            if counts(event, answer) {
                 steps.push(state.step(self.stretch.side));
             }
             state = after;
@@ -122,23 +128,13 @@ pub fn largest<'a>(
 }
 
 /// A party in a push or a pop, or between calls.
-pub fn in_call(state: &State, side: Side) -> bool {
+fn in_call(state: &State, side: Side) -> bool {
     !matches!(state.step(side), Step::Close(_) | Step::Shut { .. })
 }
 
-/// T2's turns beyond four for each note, by the other's room: where it has none, it is rung for the
-/// first note; where it has one, it may have to be rung for that still.
-pub fn slack(theirs: u64) -> u32 {
-    match theirs {
-        0 => 3,
-        1 => 2,
-        _ => 1,
-    }
-}
-
 /// T2's number, which is the same for every spin count: a spin that finds room leads to the copy.
-pub fn most_to_no_room(room: u64, theirs: u64) -> u32 {
-    4 * room as u32 + slack(theirs)
+pub fn most_to_no_room(room: u64) -> u32 {
+    4 * room as u32 + 3
 }
 
 /// T4's number. The spins do not see what makes a party stop: the epoch, a look and the flags come
@@ -162,8 +158,7 @@ pub fn most_from_look(spins: u16) -> u32 {
     6 + u32::from(spins)
 }
 
-/// T2: the turns of a willing party until no room is left, for a room of `room`, with the other
-/// stopped at whatever step.
+/// T2: the turns of a willing party alone until no room is left, for a room of `room`.
 pub fn to_no_room(
     machine: &mut Machine,
     states: &[State],
@@ -180,8 +175,10 @@ pub fn to_no_room(
         },
         arrived: |state, side| state.room(side) == 0,
     };
-    let there = |state: &&State| in_call(state, side) && state.room(side) == room;
-    largest(machine, stretch, states.iter().filter(there))
+    let alone = |state: &&State| {
+        state.is_still(side.other()) && in_call(state, side) && state.room(side) == room
+    };
+    largest(machine, stretch, states.iter().filter(alone))
 }
 
 /// T4: the turns of a party that must stop until its call has ended.
@@ -240,5 +237,10 @@ pub fn to_sleep(
 
 /// All states that a menu leads to.
 pub fn states(machine: &mut Machine, menu: Menu) -> Vec<State> {
-    Walk::all(machine, menu).states
+    let walk = Walk {
+        menu,
+        claims: &[],
+        raises: 1,
+    };
+    walk.from_start(machine).states
 }

@@ -1,7 +1,6 @@
 //! What each premise of the theorems is needed for: a run that breaks a claim without it, or
 //! the numbers that show that it is not needed.
 
-use super::both::CLAIMS;
 use super::claims::Claim;
 use super::machine::{Machine, Turns};
 use super::meddling::Meddling;
@@ -248,7 +247,7 @@ pub const PREMISES: [Premise; 7] = [
 
 fn list() -> Report {
     let mut report = Report::new(String::new());
-    for premise in PREMISES.iter().chain(&CLAIMS) {
+    for premise in PREMISES {
         report.line(&format!("{:<10} {}", premise.name, premise.says));
     }
     report
@@ -260,7 +259,6 @@ pub fn answer(name: &str) -> Option<Report> {
         "list" => Some(list()),
         _ => PREMISES
             .iter()
-            .chain(&CLAIMS)
             .find(|premise| premise.name == name)
             .map(|premise| (premise.told)()),
     }

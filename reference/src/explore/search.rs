@@ -1,12 +1,11 @@
 //! A walk through all states, breadth first, so that the first run found is a shortest.
 
-use std::collections::HashMap;
+use std::collections::HashSet;
 
 use super::claims::{Claim, Seen};
 use super::machine::{Event, Machine, State};
 use super::menu::Menu;
 use super::normal::normal;
-use crate::party::Side;
 
 /// What is explored: the menu, the claims that are watched, and how many raises of a bell
 /// since its epoch are told apart. 1 is enough where a bell does not come round: it then
@@ -25,57 +24,37 @@ pub struct Run {
     pub claim: Claim,
 }
 
-/// What led from one state to another, by their places in the walk.
-#[derive(Clone, Copy)]
-pub struct Edge {
-    pub from: usize,
-    pub event: Event,
-    pub to: usize,
-    /// Whether it is a turn that counts: one that answers neither 20 nor 253.
-    pub counts: bool,
-    /// Whose note it publishes: sends or delivers.
-    pub publishes: Option<Side>,
-}
-
-/// The states that a walk came to, in that order, all that led from one to another, and the
-/// first run that broke a claim.
+/// The states that a walk came to, and the first run that broke a claim.
 pub struct Explored {
     pub states: Vec<State>,
-    pub edges: Vec<Edge>,
     pub broken: Option<Run>,
-    places: HashMap<State, usize>,
-    /// For each state but the first the one before it and the event that led on.
+}
+
+/// A walk under way: the states in the order they were come to, and for each but the first
+/// the state before it and the event that led on.
+struct Walker {
+    known: HashSet<State>,
+    states: Vec<State>,
     origins: Vec<Option<(usize, Event)>>,
 }
 
-impl Explored {
+impl Walker {
     fn new(start: State) -> Self {
-        Explored {
+        Walker {
+            known: HashSet::from([start]),
             states: vec![start],
-            edges: Vec::new(),
-            broken: None,
-            places: HashMap::from([(start, 0)]),
             origins: vec![None],
         }
     }
 
-    fn comes_to(&mut self, state: State, from: usize, event: Event) -> usize {
-        let next = self.states.len();
-        let place = *self.places.entry(state).or_insert(next);
-        if place == next {
+    fn comes_to(&mut self, state: State, from: usize, event: Event) {
+        if self.known.insert(state) {
             self.states.push(state);
             self.origins.push(Some((from, event)));
         }
-        place
     }
 
-    /// The place of a state, if the walk came to it.
-    pub fn place(&self, state: &State) -> Option<usize> {
-        self.places.get(state).copied()
-    }
-
-    /// A shortest run to the state at a place.
-    pub fn events_to(&self, mut at: usize) -> Vec<Event> {
+    fn events_to(&self, mut at: usize) -> Vec<Event> {
         let mut events = Vec::new();
         while let Some((from, event)) = self.origins[at] {
             events.push(event);
@@ -101,30 +80,13 @@ impl Explored {
                 events.push(event);
                 return Some(Run { events, claim });
             }
-            let to = self.comes_to(normal(&after, machine.bell(), walk.raises), at, event);
-            self.edges.push(Edge {
-                from: at,
-                event,
-                to,
-                counts: event.counts(answer),
-                publishes: seen.publishes(),
-            });
+            self.comes_to(normal(&after, machine.bell(), walk.raises), at, event);
         }
         None
     }
 }
 
 impl Walk<'_> {
-    /// Walks through all that a menu leads to, with no claim watched.
-    pub fn all(machine: &mut Machine, menu: Menu) -> Explored {
-        let walk = Walk {
-            menu,
-            claims: &[],
-            raises: 1,
-        };
-        walk.from_start(machine)
-    }
-
     pub fn from_start(&self, machine: &mut Machine) -> Explored {
         let start = machine.start();
         self.explore(machine, &start)
@@ -132,12 +94,16 @@ impl Walk<'_> {
 
     /// Walks through all that may follow a state, up to the first broken claim.
     pub fn explore(&self, machine: &mut Machine, start: &State) -> Explored {
-        let mut explored = Explored::new(normal(start, machine.bell(), self.raises));
+        let mut walker = Walker::new(normal(start, machine.bell(), self.raises));
+        let mut broken = None;
         let mut at = 0;
-        while at < explored.states.len() && explored.broken.is_none() {
-            explored.broken = explored.goes_on(at, self, machine);
+        while at < walker.states.len() && broken.is_none() {
+            broken = walker.goes_on(at, self, machine);
             at += 1;
         }
-        explored
+        Explored {
+            states: walker.states,
+            broken,
+        }
     }
 }

@@ -219,7 +219,7 @@ impl Scene<'_> {
 
     fn told(&self, number: usize) -> String {
         let Some(side) = self.event.side() else {
-            return format!("{number:4}  stranger          {}\n", self.what());
+            return format!("{number:4}  stranger         {}\n", self.what());
         };
         let answer = match self.answer {
             Answer::Delivered { tag, .. } => {
@@ -228,7 +228,7 @@ impl Scene<'_> {
             other => words::answer(other, &[]),
         };
         let (who, step, what) = (side.name(), self.step(side), self.what());
-        format!("{number:4}  {who:<8}  {step:<6}  {what:<58}  {answer}\n")
+        format!("{number:4}  {who:<8}  {step:<5}  {what:<58}  {answer}\n")
     }
 }
 
