@@ -1,6 +1,7 @@
 // Plays case records from standard input, and writes a report for each to standard output: regions of many sizes and
 // starts, regions damaged between turns, records out of their limits. The rules are the libraries': here a record is
 // taken apart, a library is called, and what came of it is summed up.
+#![tactic(auto)]
 
 mod kinds;
 

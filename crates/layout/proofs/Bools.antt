@@ -41,3 +41,5 @@ agree false false = true
 pub agree-is : (a b : Bool) → T (agree a b) → a ≡ b
 agree-is true true t = refl
 agree-is false false t = refl
+agree-is false true t = elim t [ ]
+agree-is true false t = elim t [ ]

@@ -1,1 +1,2 @@
 // The rules of the region. No code: the definitions stand in specs/, their laws in proofs/.
+#![tactic(auto)]

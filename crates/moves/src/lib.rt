@@ -1,4 +1,5 @@
 // Where a turn leads, by its step.
+#![tactic(auto)]
 ghost use Rattle.std.specs.Prelude.{◌≡◌};
 ghost use Rattle.rules.specs.Take.{move_at};
 

@@ -1,1 +1,2 @@
 // Theorems alone: nothing is declared here.
+#![tactic(auto)]

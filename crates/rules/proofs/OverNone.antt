@@ -88,8 +88,8 @@ module _ (r : List ℕ) (P S : ℕ) (on : Bool) (v : ℕ) (fresh : Fresh r P S o
   abbrev power-ok : power_ok P ≡ true
   power-ok = power-fits r P S on v fresh
 
-  abbrev slot_ok : slot_ok S ≡ true
-  slot_ok = slot-fits r P S on v fresh
+  abbrev slot_ok_lem : slot_ok S ≡ true
+  slot_ok_lem = slot-fits r P S on v fresh
 
   -- such a look tells the room in the bytes
   none-there : (side : Side) (hs : List Happening) → AllTyped hs → (payload lent : List ℕ) (fault : Fault) (timed : Bool) → Blocked-at side (reached r P S on v hs) payload lent fault timed
@@ -100,7 +100,7 @@ module _ (r : List ℕ) (P S : ℕ) (on : Bool) (v : ℕ) (fresh : Fresh r P S o
       let k = room_in P S v on side w.trace in
       let seen : room_here p.own p.counter (value_of w.region p.own (next_spec p)) ≡ as_room k =
       subst (λ (s : Step). Tells p.own (sight_at P S v on side p.own w.region w.trace p.blocking) p.counter (value_of w.region p.own (next_spec p)) s) h.last
-      (tells-here P S v on power-ok slot_ok w (real-reached r P S on v fresh hs t) side payload lent fault h.taken) in
+      (tells-here P S v on power-ok slot_ok_lem w (real-reached r P S on v fresh hs t) side payload lent fault h.taken) in
       room-is r P S on v fresh side hs t ∙ none_seen k (sym seen ∙ h.blocked)
 
   turn-none : (side mover : Side) → mover ≡ side → (hs : List Happening) → AllTyped hs → (payload lent : List ℕ) (fault : Fault)
@@ -128,8 +128,8 @@ module _ (r : List ℕ) (P S : ℕ) (on : Bool) (v : ℕ) (fresh : Fresh r P S o
       let typed = typed-parts hs ms t in
       let real = real-reached r P S on v fresh hs typed.0 in
       let given : Given (turn Recorder w.region p payload lent fault) Closed = rw e at (given-first (turn Recorder w.region p payload lent fault)) in
-      let at = closed-turn Recorder w payload lent fault (λ g. ap (λ (o : Own). o.side) (own_is P S v on power-ok slot_ok w real Recorder payload lent fault g)) given in
+      let at = closed-turn Recorder w payload lent fault (λ g. ap (λ (o : Own). o.side) (own_is P S v on power-ok slot_ok_lem w real Recorder payload lent fault g)) given in
       let all = all-delivered r P S on v fresh hs typed.0 (none-there Recorder hs typed.0 payload lent fault false at) in
       let left : (party_in w Sender).closed ≡ true = sym (real.sides Sender).seat.closed-bit ∙ (real.sides Recorder).seat.heard at.last in
-      let sealed = sealed-run P S v on w.trace.delivered power-ok slot_ok ms w typed.1 real (record { closed = left; same = all }) in
+      let sealed = sealed-run P S v on w.trace.delivered power-ok slot_ok_lem ms w typed.1 real (record { closed = left; same = all }) in
       ap (λ (u : World). u.trace.sent) (run-parts hs ms (opened (created r P S on v))) ∙ sealed.same

@@ -47,7 +47,7 @@ use Rattle.rules.proofs.Seats.{moved, Roused, roused, roused-elim, seated-own, s
 use Rattle.rules.proofs.Hands.{in-hand-none, queue-kept, room-own, room-other, hand-own, hand-other}
 use Rattle.rules.proofs.FitLaws.{copy-by}
 use Rattle.rules.proofs.Copies.{copy_written, copy_read}
-use Rattle.rules.proofs.Taken.{turn_world, turn-refused, seat-own, seat-other, turn-taken, attached-here, length-ok, lent_ok}
+use Rattle.rules.proofs.Taken.{turn_world, turn-refused, seat-own, seat-other, turn-taken, attached-here, length-ok, lent_ok_lem}
 use Rattle.rules.proofs.Real.{count_of, HasRoom, Since, sizes, room_in, nth, InHand, Queue, Side-good, Real}
 
 -- what holds of one side and of the other holds of both
@@ -173,7 +173,7 @@ module _ (P S v : ℕ) (on : Bool) (power-ok : power_ok P ≡ true) (Slot-ok : s
 
     payload-in : side ≡ Sender → p.step ≡ Copy → length payload ≤ payload_capacity S
     payload-in e q =
-        rw own_is at (pushed side p.step p.own.slot e q (length-ok w side payload lent fault g) (lent_ok w side payload lent fault g))
+        rw own_is at (pushed side p.step p.own.slot e q (length-ok w side payload lent fault g) (lent_ok_lem w side payload lent fault g))
 
     fits : side ≡ Sender → p.step ≡ Copy → slot_head_bytes + length payload ≤ S
     unfolding payload_capacity
@@ -213,7 +213,7 @@ module _ (P S v : ℕ) (on : Bool) (power-ok : power_ok P ≡ true) (Slot-ok : s
             (traced (next_at s side p.counter) p payload (buffer_of r p.own (next_at s side p.counter) p.length lent) t))
             (sym q)
             (copy-hand side p.own p.counter value own_is counter-is (ap (value_of r p.own) (access-is ∙ ap (λ (s : Step). next_at s side p.counter) q)) (λ e. payload-in e q)
-            (λ e. popped side p.step e q (lent_ok w side payload lent fault g)) (subst (λ (s : Step). HasRoom (phase s) (room_in P S v on side t)) q mine.room) _ refl)
+            (λ e. popped side p.step e q (lent_ok_lem w side payload lent fault g)) (subst (λ (s : Step). HasRoom (phase s) (room_in P S v on side t)) q mine.room) _ refl)
 
     -- a bell stays a number of 32 bits
     bell-left : (τ : Side) → le_at 4 r (bell_at (sleep_bell τ)) < 2 ^ 32 → le_at 4 left (bell_at (sleep_bell τ)) < 2 ^ 32

@@ -83,9 +83,9 @@ module _ (w : World) (side : Side) (payload lent : List ℕ) (fault : Fault) whe
         and_right (spins_ok p.own.spins) _
         (and_right (slot_ok p.own.slot) _ (and_right (power_ok p.own.power) _ (and_right (same_side side p.own.side) _ (and_right p.own.attached _ is-sound))))
 
-    pub lent_ok : lent_ok (stance_of p.step) (lent_to side (length payload) (length lent)) p.length ≡ true
+    pub lent_ok_lem : lent_ok (stance_of p.step) (lent_to side (length payload) (length lent)) p.length ≡ true
     unfolding goes
-    lent_ok = and_left _ (fault_ok fault) (and_right (eqb (length w.region) (total_bytes p.own.power p.own.slot)) _ (and_right (sound side p) _ tests))
+    lent_ok_lem = and_left _ (fault_ok fault) (and_right (eqb (length w.region) (total_bytes p.own.power p.own.slot)) _ (and_right (sound side p) _ tests))
 
     -- the party after it, and the world
     abbrev value : ℕ

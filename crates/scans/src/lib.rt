@@ -1,4 +1,5 @@
 // Tests of runs of bytes in a lent slice.
+#![tactic(auto)]
 ghost use Rattle.std.specs.Prelude.{◌≡◌, ◌+◌, ◌*◌, ◌≤◌, length};
 ghost use Rattle.words.specs.Bytes.{zeros, bytes_are};
 

@@ -1,4 +1,5 @@
 // Where a turn of a push or a pop leads, a function a step. A party's own copy of sizes and options is `own`.
+#![tactic(auto)]
 ghost use Rattle.std.specs.Prelude.{◌≡◌};
 ghost use Rattle.types.specs.Pick.{pick};
 ghost use Rattle.rules.specs.Looks.{room_here};

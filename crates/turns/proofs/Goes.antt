@@ -55,9 +55,9 @@ module _ (side : Side) (p : Party) (region payload buffer : ℕ) (fault : Fault)
   unfolding goes
   record-ok = and_left (sound side p) _ go
 
-  lent_ok : (eqb region (total_bytes p.own.power p.own.slot) && (lent_ok (stance_of p.step) (lent_to side payload buffer) p.length && fault_ok fault)) ≡ true
+  lent_ok_lem : (eqb region (total_bytes p.own.power p.own.slot) && (lent_ok (stance_of p.step) (lent_to side payload buffer) p.length && fault_ok fault)) ≡ true
   unfolding goes
-  lent_ok = and_right (sound side p) _ go
+  lent_ok_lem = and_right (sound side p) _ go
 
   sizes-ok : (same_side side p.own.side && (power_ok p.own.power && (slot_ok p.own.slot && (spins_ok p.own.spins && length_ok side p.length p.own.slot)))) ≡ true
   unfolding sound
@@ -69,12 +69,12 @@ module _ (side : Side) (p : Party) (region payload buffer : ℕ) (fault : Fault)
       let sizes = and_right (same_side side p.own.side) _ sizes-ok in
       let slots = and_right (power_ok p.own.power) _ sizes in
       let counts = and_right (slot_ok p.own.slot) _ slots in
-      let copy = and_left (lent_ok (stance_of p.step) (lent_to side payload buffer) p.length) (fault_ok fault) (and_right (eqb region (total_bytes p.own.power p.own.slot)) _ lent_ok) in
+      let copy = and_left (lent_ok (stance_of p.step) (lent_to side payload buffer) p.length) (fault_ok fault) (and_right (eqb region (total_bytes p.own.power p.own.slot)) _ lent_ok_lem) in
       record {
         sized = record {
           power_in = and_left (power_ok p.own.power) _ sizes;
           slot-in = and_left (slot_ok p.own.slot) _ slots;
-          whole = eqb-true region (total_bytes p.own.power p.own.slot) (and_left (eqb region (total_bytes p.own.power p.own.slot)) _ lent_ok);
+          whole = eqb-true region (total_bytes p.own.power p.own.slot) (and_left (eqb region (total_bytes p.own.power p.own.slot)) _ lent_ok_lem);
         };
         lent = lent_at p.counter p.own.slot payload p.length buffer side p.own.side
             (and_left (same_side side p.own.side) _ sizes-ok) (and_right (spins_ok p.own.spins) _ counts) p.step copy;

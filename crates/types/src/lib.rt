@@ -1,22 +1,23 @@
 // The declared types: a party and what it is told. One party struct and one step enum serve both sides.
+#![tactic(auto)]
 ghost use Rattle.std.specs.Prelude.{◌≡◌, ◌&&◌};
 ghost use Rattle.types.specs.Answers.{told_of};
 
-#[derive(Drop)]
+#[derive(Clone, Copy)]
 pub enum Side {
     Sender,
     Recorder,
 }
 
 // NotEmpty is bell NE, on which the recorder sleeps; NotFull is bell NF, on which the sender sleeps.
-#[derive(Drop)]
+#[derive(Clone, Copy)]
 pub enum Bell {
     NotEmpty,
     NotFull,
 }
 
 // A flag bit that a party sets.
-#[derive(Drop)]
+#[derive(Clone, Copy)]
 pub enum Mark {
     SenderAttached,
     RecorderAttached,
@@ -31,7 +32,7 @@ pub enum Mark {
 // later turns need of earlier ones: from Publish to Wake the length and the tag of the note that a pop took, at a spin
 // how many more follow it, from Again to Wait the epoch, at a last look whether a time-out led to it, in a shutdown
 // whether corruption began it and, from its second raise on, the first error.
-#[derive(Drop)]
+#[derive(Clone, Copy)]
 pub enum Step {
     Rest,
     Look,
@@ -60,7 +61,7 @@ pub enum Step {
 
 // What a party keeps from its attach on: its own copy of sizes and options, never read from the region again, and how
 // often it spins before it sleeps.
-#[derive(Drop)]
+#[derive(Clone, Copy)]
 pub struct Own {
     pub side: Side,
     pub attached: bool,
@@ -71,7 +72,7 @@ pub struct Own {
 }
 
 // A party's record. The tag is a push's; the length is a push's payload or a pop's buffer.
-#[derive(Drop)]
+#[derive(Clone, Copy)]
 pub struct Party {
     pub own: Own,
     pub closed: bool,
@@ -83,7 +84,7 @@ pub struct Party {
 }
 
 // A slot's own header.
-#[derive(Drop)]
+#[derive(Clone, Copy)]
 pub struct SlotHead {
     pub length: u16,
     pub tag: u16,
@@ -93,7 +94,7 @@ pub struct SlotHead {
 
 // Document 01's answers. Done carries the length and the tag of the note that a pop took, and zeros for every other
 // call; OutputTooSmall the length needed; Syscall the operation and its error.
-#[derive(Drop)]
+#[derive(Clone, Copy)]
 pub enum Answer {
     Done(u16, u16),
     InvalidMagic,
@@ -123,7 +124,7 @@ pub enum Answer {
 
 // The one shared access of a turn, with its word and its value. A slot is named by the counter that it belongs to, a wake
 // by its bell and how many it wakes.
-#[derive(Drop)]
+#[derive(Clone, Copy)]
 pub enum Access {
     None,
     LoadCounter(Side),
@@ -139,7 +140,7 @@ pub enum Access {
 }
 
 // What the counters say to a side: used above the capacity; nothing to do for it (full, or empty); something.
-#[derive(Drop)]
+#[derive(Clone, Copy)]
 pub enum Room {
     Corrupt,
     Blocked,
@@ -147,7 +148,7 @@ pub enum Room {
 }
 
 // What the flags say to a side: shut down; the other closed; neither.
-#[derive(Drop)]
+#[derive(Clone, Copy)]
 pub enum Door {
     Shut,
     Left,
@@ -155,7 +156,7 @@ pub enum Door {
 }
 
 // What a slot's length says to a pop: above the payload capacity; above the buffer's length; neither.
-#[derive(Drop)]
+#[derive(Clone, Copy)]
 pub enum Fit {
     Bad,
     Small,
@@ -163,7 +164,7 @@ pub enum Fit {
 }
 
 // How a wait ends: asleep; as a spurious return; as a time-out; failed.
-#[derive(Drop)]
+#[derive(Clone, Copy)]
 pub enum Nap {
     Sleeps,
     Returns,
@@ -172,7 +173,7 @@ pub enum Nap {
 }
 
 // Where a turn leads: nowhere; to another step; to rest, with the call's answer.
-#[derive(Drop)]
+#[derive(Clone, Copy)]
 pub enum Move {
     Still,
     To(Step),
@@ -180,7 +181,7 @@ pub enum Move {
 }
 
 // What is to be known of a step apart from its turn.
-#[derive(Drop)]
+#[derive(Clone, Copy)]
 pub enum Stance {
     Resting,
     Sleeping,
@@ -191,28 +192,28 @@ pub enum Stance {
 }
 
 // Whether a failure of the turn's futex call is announced.
-#[derive(Drop)]
+#[derive(Clone, Copy)]
 pub enum Fault {
     Fine,
     Error(u16),
 }
 
 // Whom a turn woke.
-#[derive(Drop)]
+#[derive(Clone, Copy)]
 pub enum Woke {
     Nobody,
     SleeperOn(Bell),
 }
 
 // What a call or a turn gives back.
-#[derive(Drop)]
+#[derive(Clone, Copy)]
 pub struct Reply {
     pub party: Party,
     pub answer: Answer,
 }
 
 // The same, and whom the turn woke.
-#[derive(Drop)]
+#[derive(Clone, Copy)]
 pub struct Turned {
     pub party: Party,
     pub answer: Answer,
@@ -220,13 +221,13 @@ pub struct Turned {
 }
 
 // Both parties, with their sleeping places.
-#[derive(Drop)]
+#[derive(Clone, Copy)]
 pub struct Bench {
     pub sender: Party,
     pub recorder: Party,
 }
 
-#[derive(Drop)]
+#[derive(Clone, Copy)]
 pub struct Played {
     pub bench: Bench,
     pub answer: Answer,
@@ -234,7 +235,7 @@ pub struct Played {
 
 // What happens on a bench: a turn, its futex call failing with an error or not; what comes to a sleeper; a begin. A push
 // names whether it blocks, a tag and a length, a pop whether it blocks and its buffer's length.
-#[derive(Drop)]
+#[derive(Clone, Copy)]
 pub enum Event {
     Turn(Side),
     Failing(Side, u16),
@@ -247,7 +248,7 @@ pub enum Event {
 }
 
 // An answer as numbers. The operation of a failed futex call stands in the tag's place.
-#[derive(Drop)]
+#[derive(Clone, Copy)]
 pub struct Told {
     pub number: u8,
     pub tag: u16,

@@ -1,0 +1,7 @@
+use borrow.Author.Rules.{rules}
+use Rattle.rules.specs.Calls.{close_spec}
+use Rattle.calls.proofs.begin_close.Goals as goal
+
+pub returns : goal.returns
+unfolding close_spec
+returns c = simp (c.at.ensures, c.ready.ensures) at c.begins.ensures

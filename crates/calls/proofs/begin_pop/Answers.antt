@@ -1,0 +1,7 @@
+use borrow.Author.Rules.{rules}
+use Rattle.rules.specs.Calls.{pop_spec}
+use Rattle.calls.proofs.begin_pop.Goals as goal
+
+pub returns : goal.returns
+unfolding pop_spec
+returns c = simp (c.named.ensures, c.ready.ensures) at c.begins.ensures

@@ -1,0 +1,7 @@
+use borrow.Author.Rules.{rules}
+use Rattle.rules.specs.Calls.{shut_spec}
+use Rattle.calls.proofs.begin_shutdown.Goals as goal
+
+pub returns : goal.returns
+unfolding shut_spec
+returns c = simp (c.at.ensures, c.ready.ensures) at c.begins.ensures

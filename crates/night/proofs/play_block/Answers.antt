@@ -1,0 +1,58 @@
+use mathlib.Core.Path.{◌≡◌}
+use mathlib.Core.List.{◌++◌}
+use Prim.Native.Nat.{◌≤◌, ◌<◌, ◌-◌, ◌*◌, ◌^◌}
+use borrow.Author.Rules.{rules}
+use native.Mathlib.Omega.{arith}
+use native.Mathlib.Nat.{add-sub_cancel_left}
+use lib.ListN.{length, drop}
+use Rattle.words.proofs.Sets.{length_part}
+use Rattle.records.specs.Records.{record_bytes, payload_bytes}
+use Rattle.opening.specs.Night.{night_of}
+use Rattle.script.specs.Script.{nights, reports}
+use Rattle.night.specs.Pieces.{whole_in}
+use Rattle.night.proofs.Blocks.{nights-more, told_more}
+use Rattle.night.proofs.play_block.Goals as goal
+
+pub loop-init : goal.loop-init
+unfolding nights reports
+loop-init c = search rules
+
+pub play-record-requires : goal.play-record-requires
+play-record-requires c κs =
+    let l = c.loop in
+    let a = c.args in (
+      l.invariant.2,
+      l.invariant.3,
+      rw add-sub_cancel_left (length_part a.script.now (record_bytes * l.k) record_bytes (omega arith)),
+      rw add-sub_cancel_left (length_part l.out (record_bytes * l.k) record_bytes (omega arith)),
+    )
+
+-- the search does not look as far back as the loop's test
+pub overflow-add-k : goal.overflow-add-k
+overflow-add-k c = record { fits = omega (arith, c.loop-test.true, c.loop.invariant.7) }
+
+pub loop-smaller : goal.loop-smaller
+loop-smaller c = omega (arith, c.loop-test.true)
+
+pub loop-preserved : goal.loop-preserved
+loop-preserved c =
+    let p = c.play-record in
+    let l = c.loop in
+    let a = c.args in
+    let w = night_of a.region.now a.b a.payload.now a.buffer.now in
+    let t = simp (add-sub_cancel_left, l.invariant.5) at p.ensures.1 in (
+      omega (arith, c.loop-test.true),
+      omega (arith, p.auto),
+      omega (arith, p.auto),
+      omega (arith, p.auto),
+      omega (arith, c.out.given),
+      rw (nights-more w a.script.now l.k, ← l.invariant.5) (rw add-sub_cancel_left at p.ensures.0),
+      rw (t, l.invariant.6) (told_more w a.script.now l.k a.out.now),
+      l.invariant.7,
+    )
+
+pub returns : goal.returns
+returns c =
+    let l = c.loop in
+    let e : l.k ≡ whole_in c.args.script.now = omega arith in
+    (rw e at l.invariant.5, rw e at l.invariant.6)

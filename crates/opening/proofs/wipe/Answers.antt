@@ -1,0 +1,6 @@
+use borrow.Author.Rules.{rules}
+use Rattle.opening.proofs.Begun.{wiped}
+use Rattle.opening.proofs.wipe.Goals as goal
+
+pub returns : goal.returns
+returns c = rw c.clear.ensures (wiped c.args.s.now)

@@ -1,0 +1,14 @@
+use mathlib.Core.Path.{◌≡◌, sym, ◌∙◌}
+use mathlib.Core.Bool.{true}
+use Prim.Native.Nat.{◌+◌, ◌*◌, ◌≤◌, ◌-◌}
+use borrow.Author.Rules.{rules}
+use native.Mathlib.Omega.{arith}
+use Rattle.words.specs.Bytes.{zeros}
+use Rattle.scans.proofs.Zeros.{zeros-more, zeros-fewer}
+use Rattle.scans.proofs.zero_words.Given as goal
+
+abbrev pub invariant-loop : goal.invariant-loop
+invariant-loop s count at k₀ k = (k ≤ count) × (zeros s (8 * k) at ≡ true)
+
+abbrev pub decreases-loop : goal.decreases-loop
+decreases-loop s count at k₀ k = count - k

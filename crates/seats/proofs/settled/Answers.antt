@@ -1,0 +1,7 @@
+use borrow.Author.Rules.{rules}
+use Rattle.rules.specs.Bench.{settled}
+use Rattle.seats.proofs.settled.Goals as goal
+
+pub returns : goal.returns
+unfolding settled
+returns c = rw c.seat.ensures

@@ -1,0 +1,7 @@
+use borrow.Author.Rules.{rules}
+use Rattle.rules.specs.Calls.{ready}
+use Rattle.sound.proofs.ready.Goals as goal
+
+pub returns : goal.returns
+unfolding ready
+returns c = simp (c.sound.ensures, c.is_resting.ensures, c.stance_of.ensures) at c.both.ensures

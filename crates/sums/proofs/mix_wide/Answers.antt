@@ -1,0 +1,7 @@
+use borrow.Author.Rules.{rules}
+use Rattle.sums.specs.Sums.{mix_wide}
+use Rattle.sums.proofs.mix_wide.Goals as goal
+
+pub returns : goal.returns
+unfolding mix_wide
+returns c = rw (c.mix-2.ensures, c.mix.ensures)

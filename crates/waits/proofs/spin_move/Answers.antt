@@ -1,0 +1,7 @@
+use borrow.Author.Rules.{rules}
+use Rattle.rules.specs.Steps.{spin_move}
+use Rattle.waits.proofs.spin_move.Goals as goal
+
+pub returns : goal.returns
+unfolding spin_move
+returns c = rw (c.room_move.ensures, c.to_spin.ensures, c.room_here.ensures)

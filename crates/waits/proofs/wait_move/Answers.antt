@@ -1,0 +1,7 @@
+use borrow.Author.Rules.{rules}
+use Rattle.rules.specs.Steps.{wait_move}
+use Rattle.waits.proofs.wait_move.Goals as goal
+
+pub returns : goal.returns
+unfolding wait_move
+returns c = rw (c.nap_move.ensures, c.nap_of.ensures, c.wait_op.ensures, c.sleep_bell.ensures)

@@ -1,0 +1,7 @@
+use Rattle.std.proofs.Common.{arith, rules}
+use Rattle.words.specs.Le.{le_at}
+use Rattle.words.proofs.load8.Goals as goal
+
+pub returns : goal.returns
+unfolding le_at
+returns c = omega arith
