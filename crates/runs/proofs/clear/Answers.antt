@@ -8,15 +8,9 @@ use lib.Seq.{sets, take_all}
 use Rattle.runs.proofs.Turns.{sets_more}
 use Rattle.runs.proofs.clear.Goals as goal
 
-pub loop-preserved : goal.loop-preserved
-loop-preserved c =
+pub loop-k-preserved : goal.loop-k-preserved
+loop-k-preserved c =
     let a = c.args in
-    let l = c.loop in
+    let l = c.loop-k in
     let more = sets_more a.s.now 0 (replicate a.count 0) l.k (rw length-replicate (omega arith)) in
     (search rules, simp length-set (omega arith), rw l.invariant.2 (rw (zero-add, get_or-replicate {A = ℕ} a.count l.k 0 0 (omega arith)) at more))
-
-pub returns : goal.returns
-returns c =
-    let a = c.args in
-    let l = c.loop in
-    rw (l.invariant.2, take_all {A = ℕ} l.k (replicate a.count 0) (rw length-replicate (omega arith)))

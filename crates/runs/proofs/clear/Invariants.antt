@@ -8,8 +8,8 @@ use lib.Seq.{sets, take_all}
 use Rattle.runs.proofs.Turns.{sets_more}
 use Rattle.runs.proofs.clear.Given as goal
 
-abbrev pub invariant-loop : goal.invariant-loop
-invariant-loop s₀ count k₀ s k = (k ≤ count) × (length s ≡ length s₀) × (s ≡ sets s₀ 0 (take k (replicate count 0)))
+abbrev pub invariant-loop-k : goal.invariant-loop-k
+invariant-loop-k l = (l.k ≤ l.count) × (length l.s ≡ length l.initial.s) × (l.s ≡ sets l.initial.s 0 (take l.k (replicate l.count 0)))
 
-abbrev pub decreases-loop : goal.decreases-loop
-decreases-loop s₀ count k₀ s k = count - k
+abbrev pub decreases-loop-k : goal.decreases-loop-k
+decreases-loop-k l = l.count - l.k

@@ -7,13 +7,8 @@ use lib.Seq.{sets, take_all}
 use Rattle.runs.proofs.Turns.{sets_more}
 use Rattle.runs.proofs.copy_in.Goals as goal
 
-pub loop-preserved : goal.loop-preserved
-loop-preserved c =
+pub loop-k-preserved : goal.loop-k-preserved
+loop-k-preserved c =
     let a = c.args in
-    let l = c.loop in
+    let l = c.loop-k in
     (search rules, simp length-set (omega arith), rw l.invariant.2 (sets_more a.dst.now a.at a.src.now l.k (omega arith)))
-
-pub returns : goal.returns
-returns c =
-    let l = c.loop in
-    rw (l.invariant.2, take_all l.k c.args.src.now (omega arith))

@@ -7,8 +7,8 @@ use lib.Seq.{sets, take_all}
 use Rattle.runs.proofs.Turns.{sets_more}
 use Rattle.runs.proofs.copy_in.Given as goal
 
-abbrev pub invariant-loop : goal.invariant-loop
-invariant-loop dst₀ at src k₀ k-end dst k = (k ≤ length src) × (length dst ≡ length dst₀) × (dst ≡ sets dst₀ at (take k src))
+abbrev pub invariant-loop-k : goal.invariant-loop-k
+invariant-loop-k l = (l.k ≤ length l.src) × (length l.dst ≡ length l.initial.dst) × (l.dst ≡ sets l.initial.dst l.at (take l.k l.src))
 
-abbrev pub decreases-loop : goal.decreases-loop
-decreases-loop dst₀ at src k₀ k-end dst k = length src - k
+abbrev pub decreases-loop-k : goal.decreases-loop-k
+decreases-loop-k l = length l.src - l.k

@@ -9,14 +9,8 @@ use Rattle.words.proofs.Sets.{length_part}
 use Rattle.runs.proofs.Turns.{moved_more}
 use Rattle.runs.proofs.shift.Goals as goal
 
-pub loop-preserved : goal.loop-preserved
-loop-preserved c =
+pub loop-k-preserved : goal.loop-k-preserved
+loop-k-preserved c =
     let a = c.args in
-    let l = c.loop in
+    let l = c.loop-k in
     (search rules, simp length-set (search rules), rw l.invariant.2 (moved_more a.s.now a.at a.count l.k (omega arith) (omega arith)))
-
-pub returns : goal.returns
-returns c =
-    let a = c.args in
-    let l = c.loop in
-    rw (l.invariant.2, take_all l.k (part a.s.now a.at a.count) (rw (length_part a.s.now a.at a.count (omega arith)) (omega arith)))

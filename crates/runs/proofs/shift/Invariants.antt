@@ -9,8 +9,8 @@ use Rattle.words.proofs.Sets.{length_part}
 use Rattle.runs.proofs.Turns.{moved_more}
 use Rattle.runs.proofs.shift.Given as goal
 
-abbrev pub invariant-loop : goal.invariant-loop
-invariant-loop s₀ at count k₀ s k = (k ≤ count) × (length s ≡ length s₀) × (s ≡ sets s₀ 0 (take k (part s₀ at count)))
+abbrev pub invariant-loop-k : goal.invariant-loop-k
+invariant-loop-k l = (l.k ≤ l.count) × (length l.s ≡ length l.initial.s) × (l.s ≡ sets l.initial.s 0 (take l.k (part l.initial.s l.at l.count)))
 
-abbrev pub decreases-loop : goal.decreases-loop
-decreases-loop s₀ at count k₀ s k = count - k
+abbrev pub decreases-loop-k : goal.decreases-loop-k
+decreases-loop-k l = l.count - l.k

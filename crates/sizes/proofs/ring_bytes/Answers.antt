@@ -4,9 +4,9 @@ use Rattle.layout.specs.Limits.{ring_bytes}
 use Rattle.layout.proofs.SizeLaws.{ring-room}
 use Rattle.sizes.proofs.ring_bytes.Goals as goal
 
-pub overflow-mul-result : goal.overflow-mul-result
+pub overflow_mul-result : goal.overflow_mul-result
 unfolding ring_bytes
-overflow-mul-result c = rw c.capacity.ensures (omega (arith, ring-room c.args.power c.args.slot))
+overflow_mul-result c = rw c.capacity.ensures (omega (arith, ring-room c.args.power c.args.slot))
 
 pub returns : goal.returns
 unfolding ring_bytes

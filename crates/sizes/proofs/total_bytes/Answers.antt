@@ -4,8 +4,8 @@ use Rattle.layout.specs.Limits.{total_bytes}
 use Rattle.layout.proofs.SizeLaws.{ring-room}
 use Rattle.sizes.proofs.total_bytes.Goals as goal
 
-pub overflow-add-result : goal.overflow-add-result
-overflow-add-result c = omega (arith, ring-room c.args.power c.args.slot)
+pub overflow_add-result : goal.overflow_add-result
+overflow_add-result c = omega (arith, ring-room c.args.power c.args.slot)
 
 pub returns : goal.returns
 unfolding total_bytes
