@@ -4,4 +4,4 @@ use Rattle.calls.proofs.spurious.Goals as goal
 
 pub returns : goal.returns
 unfolding spurious_spec
-returns c = simp (c.reply.ensures, c.at.ensures, c.sound.ensures, c.sleeps.ensures) at c.rouses.ensures
+returns c = simp (c.reply-roused.ensures, c.at-looking.ensures, c.sound-goes.ensures, c.sleeps-asleep.ensures) at c.rouses.ensures

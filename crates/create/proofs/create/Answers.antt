@@ -8,38 +8,38 @@ use Rattle.layout.proofs.SizeLaws.{ring-room}
 use Rattle.create.proofs.Made.{bad-slot, bad-power, bad-length, made}
 use Rattle.create.proofs.create.Goals as goal
 
-pub returns : goal.returns
-returns c =
+pub write_header-requires : goal.write_header-requires
+unfolding total_bytes
+write_header-requires c κs =
     let a = c.args in
-    bad-slot a.region.now a.power a.slot a.notfull a.start (sym c.slot_ok.ensures ∙ not-true _ c.if1.true)
+    omega (arith, c.if-region-total_bytes.false, c.total_bytes.ensures, c.ring_bytes-ring.ensures, ring-room a.power a.slot)
 
-pub returns-2 : goal.returns-2
-returns-2 c =
+pub returns-then-not-power_fits : goal.returns-then-not-power_fits
+returns-then-not-power_fits c =
     let a = c.args in
     bad-power a.region.now a.power a.slot a.notfull a.start
-    (sym c.slot_ok.ensures ∙ not-false _ c.if1.false)
-    (sym c.power_ok.ensures ∙ not-true _ c.if2.true)
+    (sym c.slot_ok-slot_fits.ensures ∙ not-false _ c.if-not-slot_fits.false)
+    (sym c.power_ok-power_fits.ensures ∙ not-true _ c.if-not-power_fits.true)
 
-pub returns-3 : goal.returns-3
-returns-3 c =
+pub returns-then-not-slot_fits : goal.returns-then-not-slot_fits
+returns-then-not-slot_fits c =
+    let a = c.args in
+    bad-slot a.region.now a.power a.slot a.notfull a.start (sym c.slot_ok-slot_fits.ensures ∙ not-true _ c.if-not-slot_fits.true)
+
+pub returns : goal.returns
+unfolding created
+returns c =
+    let a = c.args in
+    rw (c.write_header.ensures, c.first_flags-flags.ensures, c.ring_bytes-ring.ensures)
+    (made a.region.now a.power a.slot a.notfull a.start
+    (sym c.slot_ok-slot_fits.ensures ∙ not-false _ c.if-not-slot_fits.false)
+    (sym c.power_ok-power_fits.ensures ∙ not-false _ c.if-not-power_fits.false)
+    (omega (arith, c.if-region-total_bytes.false, c.total_bytes.ensures)))
+
+pub returns-then-region-total_bytes : goal.returns-then-region-total_bytes
+returns-then-region-total_bytes c =
     let a = c.args in
     bad-length a.region.now a.power a.slot a.notfull a.start
-    (sym c.slot_ok.ensures ∙ not-false _ c.if1.false)
-    (sym c.power_ok.ensures ∙ not-false _ c.if2.false)
-    (λ e. c.if3.true (omega arith))
-
-pub write-header-requires : goal.write-header-requires
-unfolding total_bytes
-write-header-requires c κs =
-    let a = c.args in
-    omega (arith, c.if3.false, c.total_bytes.ensures, c.ring_bytes.ensures, ring-room a.power a.slot)
-
-pub returns-4 : goal.returns-4
-unfolding created
-returns-4 c =
-    let a = c.args in
-    rw (c.write_header.ensures, c.first_flags.ensures, c.ring_bytes.ensures)
-    (made a.region.now a.power a.slot a.notfull a.start
-    (sym c.slot_ok.ensures ∙ not-false _ c.if1.false)
-    (sym c.power_ok.ensures ∙ not-false _ c.if2.false)
-    (omega (arith, c.if3.false, c.total_bytes.ensures)))
+    (sym c.slot_ok-slot_fits.ensures ∙ not-false _ c.if-not-slot_fits.false)
+    (sym c.power_ok-power_fits.ensures ∙ not-false _ c.if-not-power_fits.false)
+    (λ e. c.if-region-total_bytes.true (omega arith))

@@ -4,4 +4,4 @@ use Rattle.grounds.proofs.goes.Goals as goal
 
 pub returns : goal.returns
 unfolding goes
-returns c = simp (c.both-2.ensures, c.both.ensures, c.fault_ok.ensures, c.lent_as_named.ensures, c.total_bytes.ensures, c.sound.ensures) at c.both-3.ensures
+returns c = simp (c.both-lent.ensures, c.both-turn.ensures, c.fault_ok-fine.ensures, c.lent_as_named-copy.ensures, c.total_bytes-total.ensures, c.sound-good.ensures) at c.both.ensures

@@ -6,18 +6,18 @@ use Rattle.rules.specs.Looks.{door_of}
 use Rattle.looks.proofs.LowFlags.{low-mark}
 use Rattle.looks.proofs.door_of.Goals as goal
 
-pub returns : goal.returns
+pub returns-then-shut : goal.returns-then-shut
 unfolding door_of
-returns c = rw (← low-mark Shutdown, ← c.has.ensures, c.if1.true)
+returns-then-shut c = rw (← low-mark Shutdown, ← c.has-shut.ensures, c.if-shut.true)
 
-pub returns-2 : goal.returns-2
+pub returns-then-left : goal.returns-then-left
 unfolding door_of
-returns-2 c =
-    rw (← low-mark Shutdown, ← c.has.ensures, c.if1.false)
-    (rw (← low-mark (close_mark (other c.args.side)), ← c.other.ensures, ← c.close_mark.ensures, ← c.has-2.ensures, c.if2.true))
+returns-then-left c =
+    rw (← low-mark Shutdown, ← c.has-shut.ensures, c.if-shut.false)
+    (rw (← low-mark (close_mark (other c.args.side)), ← c.other-them.ensures, ← c.close_mark-mark.ensures, ← c.has-left.ensures, c.if-left.true))
 
-pub returns-3 : goal.returns-3
+pub returns-else-left : goal.returns-else-left
 unfolding door_of
-returns-3 c =
-    rw (← low-mark Shutdown, ← c.has.ensures, c.if1.false)
-    (rw (← low-mark (close_mark (other c.args.side)), ← c.other.ensures, ← c.close_mark.ensures, ← c.has-2.ensures, c.if2.false))
+returns-else-left c =
+    rw (← low-mark Shutdown, ← c.has-shut.ensures, c.if-shut.false)
+    (rw (← low-mark (close_mark (other c.args.side)), ← c.other-them.ensures, ← c.close_mark-mark.ensures, ← c.has-left.ensures, c.if-left.false))

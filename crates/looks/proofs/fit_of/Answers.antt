@@ -2,14 +2,14 @@ use borrow.Author.Rules.{rules}
 use Rattle.rules.specs.Looks.{fit_of}
 use Rattle.looks.proofs.fit_of.Goals as goal
 
-pub returns : goal.returns
+pub returns-then-bad : goal.returns-then-bad
 unfolding fit_of
-returns c = rw (← c.is_bad.ensures, c.if1.true)
+returns-then-bad c = rw (← c.is_bad-bad.ensures, c.if-bad.true)
 
-pub returns-2 : goal.returns-2
+pub returns-then-small : goal.returns-then-small
 unfolding fit_of
-returns-2 c = rw (← c.is_bad.ensures, c.if1.false, c.if2.true)
+returns-then-small c = rw (← c.is_bad-bad.ensures, c.if-bad.false, c.if-small.true)
 
-pub returns-3 : goal.returns-3
+pub returns-else-small : goal.returns-else-small
 unfolding fit_of
-returns-3 c = rw (← c.is_bad.ensures, c.if1.false, c.if2.false)
+returns-else-small c = rw (← c.is_bad-bad.ensures, c.if-bad.false, c.if-small.false)

@@ -1,26 +1,26 @@
 use Rattle.rules.specs.Looks.{nap_of}
 use Rattle.looks.proofs.nap_of.Goals as goal
 
-pub returns : goal.returns
+pub returns-then-same : goal.returns-then-same
 unfolding nap_of
-returns c = simp (c.if1.true, c.if2.true)
+returns-then-same c = simp (c.if-fine.true, c.if-same.true)
 
-pub returns-2 : goal.returns-2
+pub returns-then-fine : goal.returns-then-fine
 unfolding nap_of
-returns-2 c = simp (c.if1.true, c.if2.false)
+returns-then-fine c = simp (c.if-fine.true, c.if-same.false)
 
-pub returns-3 : goal.returns-3
+pub returns-then-interrupted : goal.returns-then-interrupted
 unfolding nap_of
-returns-3 c = simp (c.if1.false, c.if3.true)
+returns-then-interrupted c = simp (c.if-fine.false, c.if-interrupted.true)
 
-pub returns-4 : goal.returns-4
+pub returns-then-again : goal.returns-then-again
 unfolding nap_of
-returns-4 c = simp (c.if1.false, c.if3.false, c.if4.true)
+returns-then-again c = simp (c.if-fine.false, c.if-interrupted.false, c.if-again.true)
 
-pub returns-5 : goal.returns-5
+pub returns-then-timed_out : goal.returns-then-timed_out
 unfolding nap_of
-returns-5 c = simp (c.if1.false, c.if3.false, c.if4.false, c.if5.true)
+returns-then-timed_out c = simp (c.if-fine.false, c.if-interrupted.false, c.if-again.false, c.if-timed_out.true)
 
-pub returns-6 : goal.returns-6
+pub returns-else-timed_out : goal.returns-else-timed_out
 unfolding nap_of
-returns-6 c = simp (c.if1.false, c.if3.false, c.if4.false, c.if5.false)
+returns-else-timed_out c = simp (c.if-fine.false, c.if-interrupted.false, c.if-again.false, c.if-timed_out.false)

@@ -2,10 +2,10 @@ use borrow.Author.Rules.{rules}
 use Rattle.rules.specs.Looks.{was_blocked}
 use Rattle.rooms.proofs.was_blocked.Goals as goal
 
-pub returns : goal.returns
+pub returns-in-Sender : goal.returns-in-Sender
 unfolding was_blocked
-returns c = rw (c.enum_told.given.1, c.ahead64.ensures)
+returns-in-Sender c = rw (c.in-Sender.is, c.ahead64-old.ensures)
 
-pub returns-2 : goal.returns-2
+pub returns-in-Recorder : goal.returns-in-Recorder
 unfolding was_blocked
-returns-2 c = rw (c.enum-told2.given.1, c.ahead64-2.ensures, c.ahead64.ensures)
+returns-in-Recorder c = rw (c.in-Recorder.is, c.ahead64-count.ensures, c.ahead64-old.ensures)

@@ -7,8 +7,8 @@ use lib.ListN.{length, get_or}
 use Rattle.words.proofs.Runs.{bytes_are-true, bytes_are-false}
 use Rattle.scans.proofs.same_bytes.Given as goal
 
-abbrev pub invariant-loop : goal.invariant-loop
-invariant-loop s at t k₀ k-end k = (k ≤ length t) × ((j : ℕ) → j < k → get_or s (at + j) 0 ≡ get_or t j 0)
+abbrev pub invariant-loop-k : goal.invariant-loop-k
+invariant-loop-k l = (l.k ≤ length l.t) × ((j : ℕ) → j < l.k → get_or l.s (l.at + j) 0 ≡ get_or l.t j 0)
 
-abbrev pub decreases-loop : goal.decreases-loop
-decreases-loop s at t k₀ k-end k = length t - k
+abbrev pub decreases-loop-k : goal.decreases-loop-k
+decreases-loop-k l = length l.t - l.k

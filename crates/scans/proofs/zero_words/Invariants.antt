@@ -7,8 +7,8 @@ use Rattle.words.specs.Bytes.{zeros}
 use Rattle.scans.proofs.Zeros.{zeros-more, zeros-fewer}
 use Rattle.scans.proofs.zero_words.Given as goal
 
-abbrev pub invariant-loop : goal.invariant-loop
-invariant-loop s count at k₀ k = (k ≤ count) × (zeros s (8 * k) at ≡ true)
+abbrev pub invariant-loop-k : goal.invariant-loop-k
+invariant-loop-k l = (l.k ≤ l.count) × (zeros l.s (8 * l.k) l.at ≡ true)
 
-abbrev pub decreases-loop : goal.decreases-loop
-decreases-loop s count at k₀ k = count - k
+abbrev pub decreases-loop-k : goal.decreases-loop-k
+decreases-loop-k l = l.count - l.k

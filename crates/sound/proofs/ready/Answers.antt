@@ -4,4 +4,4 @@ use Rattle.sound.proofs.ready.Goals as goal
 
 pub returns : goal.returns
 unfolding ready
-returns c = simp (c.sound.ensures, c.is_resting.ensures, c.stance_of.ensures) at c.both.ensures
+returns c = simp (c.sound-good.ensures, c.is_resting-resting.ensures, c.stance_of-stance.ensures) at c.both.ensures

@@ -8,17 +8,12 @@ use Rattle.sums.specs.Sums.{mix_bytes}
 use Rattle.sums.proofs.Turns.{mix_bytes-more}
 use Rattle.sums.proofs.mix_bytes.Goals as goal
 
-pub loop-init : goal.loop-init
+pub loop-k-init : goal.loop-k-init
 unfolding mix_bytes
-loop-init c = search rules
+loop-k-init c = search rules
 
-pub loop-preserved : goal.loop-preserved
-loop-preserved c =
+pub loop-k-preserved : goal.loop-k-preserved
+loop-k-preserved c =
     let a = c.args in
-    let l = c.loop in
-    (search rules, c.mix.ensures ∙ rw (c.wide.ensures, l.invariant.1) (mix_bytes-more a.sum a.s.now l.k (omega arith)))
-
-pub returns : goal.returns
-returns c =
-    let l = c.loop in
-    rw (l.invariant.1, take_all l.k c.args.s.now (omega arith))
+    let l = c.loop-k in
+    (search rules, c.mix-all.ensures ∙ rw (c.wide.ensures, l.invariant.1) (mix_bytes-more a.sum a.s.now l.k (omega arith)))

@@ -8,8 +8,8 @@ use Rattle.sums.specs.Sums.{mix_bytes}
 use Rattle.sums.proofs.Turns.{mix_bytes-more}
 use Rattle.sums.proofs.mix_bytes.Given as goal
 
-abbrev pub invariant-loop : goal.invariant-loop
-invariant-loop sum s all₀ k₀ k-end all k = (k ≤ length s) × (all ≡ mix_bytes sum (take k s))
+abbrev pub invariant-loop-k : goal.invariant-loop-k
+invariant-loop-k l = (l.k ≤ length l.s) × (l.all ≡ mix_bytes l.sum (take l.k l.s))
 
-abbrev pub decreases-loop : goal.decreases-loop
-decreases-loop sum s all₀ k₀ k-end all k = length s - k
+abbrev pub decreases-loop-k : goal.decreases-loop-k
+decreases-loop-k l = length l.s - l.k

@@ -4,4 +4,4 @@ use Rattle.sums.proofs.mix_wide.Goals as goal
 
 pub returns : goal.returns
 unfolding mix_wide
-returns c = rw (c.mix-2.ensures, c.mix.ensures)
+returns c = rw (c.mix.ensures, c.mix-low.ensures)

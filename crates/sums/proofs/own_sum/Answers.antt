@@ -6,5 +6,5 @@ use Rattle.sums.proofs.own_sum.Goals as goal
 pub returns : goal.returns
 unfolding own_sum
 returns c =
-    rw (c.mix-5.ensures, c.mix-4.ensures, c.mix-3.ensures, c.mix-2.ensures, c.mix.ensures, c.whose.ensures)
+    rw (c.mix.ensures, c.mix-option.ensures, c.mix-slot.ensures, c.mix-power.ensures, c.mix-attached.ensures, c.whose.ensures)
     (simp cast-bit)

@@ -6,5 +6,5 @@ use Rattle.sums.proofs.party_sum.Goals as goal
 pub returns : goal.returns
 unfolding party_sum
 returns c =
-    rw (c.mix-4.ensures, c.mix-3.ensures, c.mix-2.ensures, c.mix_wide.ensures, c.mix.ensures, c.own_sum.ensures)
+    rw (c.mix.ensures, c.mix-tag.ensures, c.mix-blocking.ensures, c.mix_wide-counter.ensures, c.mix-closed.ensures, c.own_sum.ensures)
     (simp cast-bit)

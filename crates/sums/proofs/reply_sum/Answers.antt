@@ -2,4 +2,4 @@ use borrow.Author.Rules.{rules}
 use Rattle.sums.proofs.reply_sum.Goals as goal
 
 pub returns : goal.returns
-returns c = rw (c.mix_wide-2.ensures, c.party_word.ensures, c.mix_wide.ensures, c.told_word.ensures, c.told.ensures)
+returns c = rw (c.mix_wide.ensures, c.party_word.ensures, c.mix_wide-answered.ensures, c.told_word.ensures, c.told.ensures)
