@@ -3,8 +3,8 @@ use mathlib.Core.Path.{◌≡◌, sym, ◌∙◌}
 use mathlib.Core.Bool.{Bool, true, false, not}
 use borrow.Author.Tests.{not-true, not-false}
 
-pub passed : (b s : Bool) → b ≡ s → not b ≡ false → s ≡ true
-passed b s e t = sym e ∙ not-false b t
+pub passed : (b s : Bool) → b ≡ s → b ≡ true → s ≡ true
+passed b s e t = sym e ∙ t
 
-pub refused : (b s : Bool) → b ≡ s → not b ≡ true → s ≡ false
-refused b s e t = sym e ∙ not-true b t
+pub refused : (b s : Bool) → b ≡ s → b ≡ false → s ≡ false
+refused b s e t = sym e ∙ t

@@ -47,6 +47,7 @@ pub enum Asked {
     Bad,
 }
 
+#[tactic(auto, unfolding(crate::specs::Records::action_of))]
 pub fn action_of(pair: u8) -> Action
     ensures { result ≡ action_of pair }
 {

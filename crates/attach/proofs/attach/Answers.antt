@@ -10,24 +10,24 @@ use Rattle.attach.proofs.attach.Goals as goal
 tested : (t : Told) (a s : Answer) → t ≡ told_of a → a ≡ s → t.number ≡ number s
 tested t a s e f = ap (λ (x : Told). x.number) e ∙ ap number f
 
+pub attached-party-requires : goal.attached-party-requires
+attached-party-requires c =
+    let a = c.args in
+    long-enough a.region.now a.side a.spins (sym (tested _ _ _ c.told-told.ensures c.attach_answer-answer.ensures) ∙ c.if-told-ne0.false)
+
+pub set_own_bit-requires : goal.set_own_bit-requires
+set_own_bit-requires c =
+    let a = c.args in
+    long-enough a.region.now a.side a.spins (sym (tested _ _ _ c.told-told.ensures c.attach_answer-answer.ensures) ∙ c.if-told-ne0.false)
+
+pub returns-then-told-ne0 : goal.returns-then-told-ne0
+returns-then-told-ne0 c =
+    let a = c.args in
+    let m = turned-away a.region.now a.side a.spins (λ e. c.if-told-ne0.true (tested _ _ _ c.told-told.ensures c.attach_answer-answer.ensures ∙ e)) in
+    record { reply = rw (c.attach_answer-answer.ensures, c.unattached-party.ensures) m.0; leaves = m.1 }
+
 pub returns : goal.returns
 returns c =
     let a = c.args in
-    rw (c.attach_answer.ensures, c.unattached.ensures)
-    (turned-away a.region.now a.side a.spins (λ e. c.if1.true (tested _ _ _ c.told.ensures c.attach_answer.ensures ∙ e)))
-
-pub attached-requires : goal.attached-requires
-attached-requires c κs =
-    let a = c.args in
-    long-enough a.region.now a.side a.spins (sym (tested _ _ _ c.told.ensures c.attach_answer.ensures) ∙ c.if1.false)
-
-pub set-own-bit-requires : goal.set-own-bit-requires
-set-own-bit-requires c κs =
-    let a = c.args in
-    long-enough a.region.now a.side a.spins (sym (tested _ _ _ c.told.ensures c.attach_answer.ensures) ∙ c.if1.false)
-
-pub returns-2 : goal.returns-2
-returns-2 c =
-    let a = c.args in
-    rw (c.set_own_bit.ensures, c.attached.ensures, c.attach_answer.ensures)
-    (joined a.region.now a.side a.spins (sym (tested _ _ _ c.told.ensures c.attach_answer.ensures) ∙ c.if1.false))
+    let m = joined a.region.now a.side a.spins (sym (tested _ _ _ c.told-told.ensures c.attach_answer-answer.ensures) ∙ c.if-told-ne0.false) in
+    record { reply = rw (c.attached-party.ensures, c.attach_answer-answer.ensures) m.0; leaves = rw c.set_own_bit.ensures m.1 }

@@ -4,12 +4,12 @@ use borrow.Author.Tests.{not-true, not-false}
 use Rattle.layout.proofs.Accepted.{spins-refused, spins-taken}
 use Rattle.attach.proofs.attach_answer.Goals as goal
 
+pub returns-then-not-spins_ok : goal.returns-then-not-spins_ok
+returns-then-not-spins_ok c =
+    let a = c.args in
+    sym (spins-refused a.region.now a.side a.spins (sym c.spins_ok.ensures ∙ c.if-not-spins_ok.true))
+
 pub returns : goal.returns
 returns c =
     let a = c.args in
-    sym (spins-refused a.region.now a.side a.spins (sym c.spins_ok.ensures ∙ not-true _ c.if1.true))
-
-pub returns-2 : goal.returns-2
-returns-2 c =
-    let a = c.args in
-    c.region_answer.ensures ∙ sym (spins-taken a.region.now a.side a.spins (sym c.spins_ok.ensures ∙ not-false _ c.if1.false))
+    c.region_answer.ensures ∙ sym (spins-taken a.region.now a.side a.spins (sym c.spins_ok.ensures ∙ c.if-not-spins_ok.false))

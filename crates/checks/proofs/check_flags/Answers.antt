@@ -5,28 +5,28 @@ use Rattle.checks.proofs.Tests.{passed, refused}
 use Rattle.layout.specs.Attach.{flag_checks}
 use Rattle.checks.proofs.check_flags.Goals as goal
 
-pub returns : goal.returns
+pub returns-then-flags-ge-RESERVED_FROM : goal.returns-then-flags-ge-RESERVED_FROM
 unfolding flag_checks
-returns c = simp (le-ltb _ _ c.if1.true)
+returns-then-flags-ge-RESERVED_FROM c = simp (le-ltb _ _ c.if-flags-ge-RESERVED_FROM.true)
 
-pub returns-2 : goal.returns-2
+pub returns-then-not-initialised : goal.returns-then-not-initialised
 unfolding flag_checks
-returns-2 c = simp (lt-ltb _ _ c.if1.false, refused _ _ c.initialised.ensures c.if2.true)
+returns-then-not-initialised c = simp (lt-ltb _ _ c.if-flags-ge-RESERVED_FROM.false, refused _ _ c.initialised.ensures c.if-not-initialised.true)
 
-pub returns-3 : goal.returns-3
+pub returns-then-has : goal.returns-then-has
 unfolding flag_checks
-returns-3 c =
+returns-then-has c =
     simp (
-      lt-ltb _ _ c.if1.false,
-      passed _ _ c.initialised.ensures c.if2.false,
-      rw c.attach_mark.ensures at (sym c.has.ensures ∙ c.if3.true),
+      lt-ltb _ _ c.if-flags-ge-RESERVED_FROM.false,
+      passed _ _ c.initialised.ensures c.if-not-initialised.false,
+      rw c.attach_mark-mark.ensures at (sym c.has.ensures ∙ c.if-has.true),
     )
 
-pub returns-4 : goal.returns-4
+pub returns : goal.returns
 unfolding flag_checks
-returns-4 c =
+returns c =
     simp (
-      lt-ltb _ _ c.if1.false,
-      passed _ _ c.initialised.ensures c.if2.false,
-      rw c.attach_mark.ensures at (sym c.has.ensures ∙ c.if3.false),
+      lt-ltb _ _ c.if-flags-ge-RESERVED_FROM.false,
+      passed _ _ c.initialised.ensures c.if-not-initialised.false,
+      rw c.attach_mark-mark.ensures at (sym c.has.ensures ∙ c.if-has.false),
     )

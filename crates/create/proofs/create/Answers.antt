@@ -1,7 +1,6 @@
 use borrow.Author.Rules.{rules}
 use mathlib.Core.Path.{sym, ◌∙◌}
 use native.Mathlib.Omega.{arith}
-use borrow.Author.Tests.{not-true, not-false}
 use Rattle.layout.specs.Limits.{total_bytes}
 use Rattle.layout.specs.Create.{created}
 use Rattle.layout.proofs.SizeLaws.{ring-room}
@@ -10,36 +9,42 @@ use Rattle.create.proofs.create.Goals as goal
 
 pub write_header-requires : goal.write_header-requires
 unfolding total_bytes
-write_header-requires c κs =
+write_header-requires c =
     let a = c.args in
     omega (arith, c.if-region-total_bytes.false, c.total_bytes.ensures, c.ring_bytes-ring.ensures, ring-room a.power a.slot)
 
 pub returns-then-not-power_fits : goal.returns-then-not-power_fits
 returns-then-not-power_fits c =
     let a = c.args in
-    bad-power a.region.now a.power a.slot a.notfull a.start
-    (sym c.slot_ok-slot_fits.ensures ∙ not-false _ c.if-not-slot_fits.false)
-    (sym c.power_ok-power_fits.ensures ∙ not-true _ c.if-not-power_fits.true)
+    let m =
+        bad-power a.region.now a.power a.slot a.notfull a.start
+        (sym c.slot_ok-slot_fits.ensures ∙ c.if-not-slot_fits.false)
+        (sym c.power_ok-power_fits.ensures ∙ c.if-not-power_fits.true) in
+    record { answer = m.0; leaves = m.1 }
 
 pub returns-then-not-slot_fits : goal.returns-then-not-slot_fits
 returns-then-not-slot_fits c =
     let a = c.args in
-    bad-slot a.region.now a.power a.slot a.notfull a.start (sym c.slot_ok-slot_fits.ensures ∙ not-true _ c.if-not-slot_fits.true)
+    let m = bad-slot a.region.now a.power a.slot a.notfull a.start (sym c.slot_ok-slot_fits.ensures ∙ c.if-not-slot_fits.true) in
+    record { answer = m.0; leaves = m.1 }
 
 pub returns : goal.returns
 unfolding created
 returns c =
     let a = c.args in
-    rw (c.write_header.ensures, c.first_flags-flags.ensures, c.ring_bytes-ring.ensures)
-    (made a.region.now a.power a.slot a.notfull a.start
-    (sym c.slot_ok-slot_fits.ensures ∙ not-false _ c.if-not-slot_fits.false)
-    (sym c.power_ok-power_fits.ensures ∙ not-false _ c.if-not-power_fits.false)
-    (omega (arith, c.if-region-total_bytes.false, c.total_bytes.ensures)))
+    let m =
+        made a.region.now a.power a.slot a.notfull a.start
+        (sym c.slot_ok-slot_fits.ensures ∙ c.if-not-slot_fits.false)
+        (sym c.power_ok-power_fits.ensures ∙ c.if-not-power_fits.false)
+        (omega (arith, c.if-region-total_bytes.false, c.total_bytes.ensures)) in
+    record { answer = m.0; leaves = rw (c.write_header.ensures, c.first_flags-flags.ensures, c.ring_bytes-ring.ensures) m.1 }
 
 pub returns-then-region-total_bytes : goal.returns-then-region-total_bytes
 returns-then-region-total_bytes c =
     let a = c.args in
-    bad-length a.region.now a.power a.slot a.notfull a.start
-    (sym c.slot_ok-slot_fits.ensures ∙ not-false _ c.if-not-slot_fits.false)
-    (sym c.power_ok-power_fits.ensures ∙ not-false _ c.if-not-power_fits.false)
-    (λ e. c.if-region-total_bytes.true (omega arith))
+    let m =
+        bad-length a.region.now a.power a.slot a.notfull a.start
+        (sym c.slot_ok-slot_fits.ensures ∙ c.if-not-slot_fits.false)
+        (sym c.power_ok-power_fits.ensures ∙ c.if-not-power_fits.false)
+        (λ e. c.if-region-total_bytes.true (omega arith)) in
+    record { answer = m.0; leaves = m.1 }
