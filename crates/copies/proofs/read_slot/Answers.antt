@@ -9,27 +9,20 @@ use Rattle.rules.proofs.FitLaws.{fit-good}
 use Rattle.copies.proofs.Room.{place_in, head_in}
 use Rattle.copies.proofs.read_slot.Goals as goal
 
-pub head-at-requires : goal.head-at-requires
-head-at-requires c κs =
+pub head_at-word-requires : goal.head_at-word-requires
+head_at-word-requires c =
     let s = c in
-    (head_in s.requires.0, omega (arith, c.place.ensures, place_in s.requires.0 s.args.count))
+    (head_in s.requires.0, omega (arith, c.place-at.ensures, place_in s.requires.0 s.args.count))
 
 pub deliver-requires : goal.deliver-requires
-deliver-requires c κs =
+deliver-requires c =
     let s = c in
     let a = s.args in
-    let h = c.head_of.result in (
-      omega (arith, c.place.ensures, place_in s.requires.0 a.count),
+    let h = c.head_of-head.result in (
+      omega (arith, c.place-at.ensures, place_in s.requires.0 a.count),
       λ e.
-          let f : c.fit_of.result ≡ fit_of h (payload_capacity a.own.slot) a.named =
-          c.fit_of.ensures ∙ ap (λ (m : ℕ). fit_of h m a.named) c.payload_capacity.ensures in
+          let f : c.fit_of-f.result ≡ fit_of h (payload_capacity a.own.slot) a.named =
+          c.fit_of-f.ensures ∙ ap (λ (m : ℕ). fit_of h m a.named) c.payload_capacity-most.ensures in
           let w = fit-good h (payload_capacity a.own.slot) a.named (sym f ∙ e) in
           (payload-in a.own.slot s.requires.0.slot-in h.length w.0, omega (arith, s.requires.1)),
     )
-
-pub returns : goal.returns
-returns c =
-    let at = c.place.ensures in
-    let word = rw at at c.head_at.ensures in
-    let head = rw word at c.head_of.ensures in
-    (word, simp (c.deliver.ensures, c.fit_of.ensures, c.payload_capacity.ensures, head, at))

@@ -5,14 +5,8 @@ use lib.Seq.{length-take-le}
 use Rattle.reports.proofs.Filled.{report-stores}
 use Rattle.reports.proofs.report_of.Goals as goal
 
-pub slice-aggregate-copy-in : goal.slice-aggregate-copy-in
-slice-aggregate-copy-in c = sym (length-take-le c.shown.result c.args.buffer.now (omega (arith, c.requires, c.shown.ensures.1)))
-
-pub copy-in-requires : goal.copy-in-requires
-copy-in-requires c κs = rw (length-take-le c.shown.result c.args.buffer.now (omega (arith, c.requires, c.shown.ensures.1))) (omega (arith, c.shown.ensures.1))
-
 pub returns : goal.returns
 returns c =
     let a = c.args in
     rw (c.copy_in.ensures, c.store16-3.ensures, c.store16-2.ensures, c.store16.ensures, c.store8-2.ensures, c.store8.ensures, c.clear.ensures)
-    (report-stores a.out.now a.buffer.now a.kind a.t c.shown.result c.requires.1 c.requires.0 c.shown.ensures.0 c.shown.ensures.1)
+    (report-stores a.out.now a.buffer.now a.kind a.t c.shown-n.result c.requires.1 c.requires.0 c.shown-n.ensures.is c.shown-n.ensures.within)

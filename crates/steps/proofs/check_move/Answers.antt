@@ -4,4 +4,4 @@ use Rattle.steps.proofs.check_move.Goals as goal
 
 pub returns : goal.returns
 unfolding check_move
-returns c = rw (c.goes_or_ends.ensures, c.was_blocked.ensures, c.capacity.ensures)
+returns c = rw (c.goes_or_ends.ensures, c.was_blocked-blocked.ensures, c.capacity-capacity.ensures)

@@ -4,4 +4,4 @@ use Rattle.steps.proofs.publish_move.Goals as goal
 
 pub returns : goal.returns
 unfolding publish_move
-returns c = rw (c.goes_or_ends.ensures, c.rings.ensures)
+returns c = rw (c.goes_or_ends.ensures, c.rings-rings.ensures)

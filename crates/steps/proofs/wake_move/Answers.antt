@@ -4,4 +4,4 @@ use Rattle.steps.proofs.wake_move.Goals as goal
 
 pub returns : goal.returns
 unfolding wake_move
-returns c = rw (c.unless_failed.ensures, c.wake_op.ensures, c.ring_bell.ensures)
+returns c = rw (c.unless_failed-answer.ensures, c.wake_op-operation.ensures, c.ring_bell-bell.ensures)

@@ -4,4 +4,4 @@ use Rattle.waits.proofs.again_move.Goals as goal
 
 pub returns : goal.returns
 unfolding again_move
-returns c = rw (c.room_move.ensures, c.room_here.ensures)
+returns c = rw (c.room_move.ensures, c.room_here-room.ensures)

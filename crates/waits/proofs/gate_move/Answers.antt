@@ -4,4 +4,4 @@ use Rattle.waits.proofs.gate_move.Goals as goal
 
 pub returns : goal.returns
 unfolding gate_move
-returns c = rw (c.door_move.ensures, c.door_of.ensures)
+returns c = rw (c.door_move.ensures, c.door_of-door.ensures)

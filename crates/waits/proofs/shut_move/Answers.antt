@@ -2,10 +2,10 @@ use borrow.Author.Rules.{rules}
 use Rattle.rules.specs.Steps.{shut_move}
 use Rattle.waits.proofs.shut_move.Goals as goal
 
-pub returns : goal.returns
+pub returns-then-corrupt : goal.returns-then-corrupt
 unfolding shut_move
-returns c = rw c.if1.true
+returns-then-corrupt c = rw c.if-corrupt.true
 
-pub returns-2 : goal.returns-2
+pub returns-else-corrupt : goal.returns-else-corrupt
 unfolding shut_move
-returns-2 c = rw (c.if1.false, c.unless_failed-2.ensures, c.unless_failed.ensures, c.wake_op-2.ensures, c.wake_op.ensures)
+returns-else-corrupt c = rw (c.if-corrupt.false, c.unless_failed-answer.ensures, c.unless_failed-last.ensures, c.wake_op-later.ensures, c.wake_op-earlier.ensures)

@@ -3,10 +3,10 @@ use borrow.Author.Tests.{eq-eqb, ne_eqb}
 use Rattle.rules.specs.Steps.{to_spin}
 use Rattle.waits.proofs.to_spin.Goals as goal
 
+pub returns-then-spins-eq0 : goal.returns-then-spins-eq0
+unfolding to_spin
+returns-then-spins-eq0 c = simp (eq-eqb _ _ c.if-spins-eq0.true)
+
 pub returns : goal.returns
 unfolding to_spin
-returns c = simp (eq-eqb _ _ c.if1.true)
-
-pub returns-2 : goal.returns-2
-unfolding to_spin
-returns-2 c = simp (ne_eqb _ _ c.if1.false)
+returns c = simp (ne_eqb _ _ c.if-spins-eq0.false)
