@@ -4,72 +4,66 @@ use Rattle.copies.proofs.Room.{header-in}
 use Rattle.access.proofs.perform.Goals as goal
 
 pub counter-requires : goal.counter-requires
-counter-requires c κs = header-in c.requires.sized
+counter-requires c = header-in c.requires.sized
 
 pub flags-requires : goal.flags-requires
-flags-requires c κs = header-in c.requires.sized
+flags-requires c = header-in c.requires.sized
 
 pub bell-requires : goal.bell-requires
-bell-requires c κs = header-in c.requires.sized
-
-pub write-slot-requires : goal.write-slot-requires
-write-slot-requires c κs = let s = c in (s.requires.sized, rw c.a3.given.1 at s.requires.lent)
-
-pub read-slot-requires : goal.read-slot-requires
-read-slot-requires c κs = let s = c in (s.requires.sized, rw c.a4.given.1 at s.requires.lent)
+bell-requires c = header-in c.requires.sized
 
 pub publish-requires : goal.publish-requires
-publish-requires c κs = header-in c.requires.sized
+publish-requires c = header-in c.requires.sized
 
 pub raise-requires : goal.raise-requires
-raise-requires c κs = header-in c.requires.sized
+raise-requires c = header-in c.requires.sized
 
-pub set-flag-requires : goal.set-flag-requires
-set-flag-requires c κs = header-in c.requires.sized
+pub set_flag-requires : goal.set_flag-requires
+set_flag-requires c = header-in c.requires.sized
 
-pub bell-requires-2 : goal.bell-requires-2
-bell-requires-2 c κs = header-in c.requires.sized
+pub bell-requires-in-WaitBell : goal.bell-requires-in-WaitBell
+bell-requires-in-WaitBell c = header-in c.requires.sized
 
-pub returns : goal.returns
+pub returns-in-ReadSlot : goal.returns-in-ReadSlot
 unfolding value_of leaves_of buffer_of
-returns c = let e = c.enum_told.given.1 in (rw e, (rw e, rw e))
+returns-in-ReadSlot c = let e = c.in-ReadSlot.is in record { value = rw e c.read_slot.ensures.value; leaves = rw e; given = rw e c.read_slot.ensures.given }
 
-pub returns-2 : goal.returns-2
+pub returns-in-WaitBell : goal.returns-in-WaitBell
 unfolding value_of leaves_of buffer_of
-returns-2 c = let e = c.a.given.1 in (rw e c.counter.ensures, (rw e, rw e))
+returns-in-WaitBell c = let e = c.in-WaitBell.is in record { value = rw e c.bell-in-WaitBell.ensures; leaves = rw e; given = rw e }
 
-pub returns-3 : goal.returns-3
+pub returns-in-WakeBell : goal.returns-in-WakeBell
 unfolding value_of leaves_of buffer_of
-returns-3 c = let e = c.enum-told2.given.1 in (rw e c.flags.ensures, (rw e, rw e))
+returns-in-WakeBell c = let e = c.in-WakeBell.is in record { value = rw e; leaves = rw e; given = rw e }
 
-pub returns-4 : goal.returns-4
+pub returns-in-LoadBell : goal.returns-in-LoadBell
 unfolding value_of leaves_of buffer_of
-returns-4 c = let e = c.a2.given.1 in (rw e c.bell.ensures, (rw e, rw e))
+returns-in-LoadBell c = let e = c.in-LoadBell.is in record { value = rw e c.bell.ensures; leaves = rw e; given = rw e }
 
-pub returns-5 : goal.returns-5
+pub returns-in-None : goal.returns-in-None
 unfolding value_of leaves_of buffer_of
-returns-5 c = let e = c.a3.given.1 in (rw e, (rw e c.write_slot.ensures, rw e))
+returns-in-None c = let e = c.in-None.is in record { value = rw e; leaves = rw e; given = rw e }
 
-pub returns-6 : goal.returns-6
+pub returns-in-SetFlag : goal.returns-in-SetFlag
 unfolding value_of leaves_of buffer_of
-returns-6 c = let e = c.a4.given.1 in (rw e c.read_slot.ensures.0, (rw e, rw e c.read_slot.ensures.1))
+returns-in-SetFlag c = let e = c.in-SetFlag.is in record { value = rw e; leaves = rw e c.set_flag.ensures; given = rw e }
 
-pub returns-7 : goal.returns-7
+pub returns-in-LoadFlags : goal.returns-in-LoadFlags
 unfolding value_of leaves_of buffer_of
-returns-7 c = let e = c.a5.given.1 in (rw e, (rw e c.publish.ensures, rw e))
+returns-in-LoadFlags c = let e = c.in-LoadFlags.is in record { value = rw e c.flags.ensures; leaves = rw e; given = rw e }
 
-pub returns-8 : goal.returns-8
+pub returns-in-LoadCounter : goal.returns-in-LoadCounter
 unfolding value_of leaves_of buffer_of
-returns-8 c = let e = c.a6.given.1 in (rw e, (rw e c.raise.ensures, rw e))
+returns-in-LoadCounter c = let e = c.in-LoadCounter.is in record { value = rw e c.counter.ensures; leaves = rw e; given = rw e }
 
-pub returns-9 : goal.returns-9
+pub returns-in-WriteSlot : goal.returns-in-WriteSlot
 unfolding value_of leaves_of buffer_of
-returns-9 c = let e = c.a7.given.1 in (rw e, (rw e c.set_flag.ensures, rw e))
+returns-in-WriteSlot c = let e = c.in-WriteSlot.is in record { value = rw e; leaves = rw e c.write_slot.ensures; given = rw e }
 
-pub returns-10 : goal.returns-10
+pub returns-in-StoreCounter : goal.returns-in-StoreCounter
 unfolding value_of leaves_of buffer_of
-returns-10 c = let e = c.a8.given.1 in (rw e c.bell-2.ensures, (rw e, rw e))
+returns-in-StoreCounter c = let e = c.in-StoreCounter.is in record { value = rw e; leaves = rw e c.publish.ensures; given = rw e }
 
-pub returns-11 : goal.returns-11
+pub returns-in-RaiseBell : goal.returns-in-RaiseBell
 unfolding value_of leaves_of buffer_of
-returns-11 c = let e = c.enum-told3.given.1 in (rw e, (rw e, rw e))
+returns-in-RaiseBell c = let e = c.in-RaiseBell.is in record { value = rw e; leaves = rw e c.raise.ensures; given = rw e }

@@ -4,4 +4,4 @@ use Rattle.seats.proofs.settled.Goals as goal
 
 pub returns : goal.returns
 unfolding settled
-returns c = rw c.seat.ensures
+returns c = rw c.seat-bench.ensures

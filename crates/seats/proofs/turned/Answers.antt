@@ -4,4 +4,4 @@ use Rattle.seats.proofs.turned.Goals as goal
 
 pub returns : goal.returns
 unfolding turned
-returns c = simp (c.seat-2.ensures, c.seat.ensures, c.wakened.ensures, c.party_of.ensures, c.other.ensures)
+returns c = simp (c.seat-bench.ensures, c.seat-moved.ensures, c.wakened-heard.ensures, c.party_of-sleeper.ensures, c.other-them.ensures)

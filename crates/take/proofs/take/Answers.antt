@@ -4,4 +4,4 @@ use Rattle.take.proofs.take.Goals as goal
 
 pub returns : goal.returns
 unfolding move_of take_spec
-returns c = rw (c.closed_after.ensures, c.counter_after.ensures, c.step_after.ensures, c.answer_of.ensures, c.move_at.ensures, c.stance_of.ensures)
+returns c = rw (c.closed_after-closed.ensures, c.counter_after-counter.ensures, c.step_after-onward.ensures, c.answer_of-answer.ensures, c.move_at-moved.ensures, c.stance_of-stance.ensures)
