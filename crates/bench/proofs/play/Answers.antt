@@ -2,34 +2,34 @@ use borrow.Author.Rules.{rules}
 use Rattle.rules.specs.Bench.{played, played_leaves, played_buffer}
 use Rattle.bench.proofs.play.Goals as goal
 
-pub returns : goal.returns
+pub returns-in-TimeOut : goal.returns-in-TimeOut
 unfolding played played_leaves played_buffer
-returns c = let e = c.e.given.1 in let t = c.turn.ensures in (rw e t.0, (rw e t.1.0, rw e t.1.1))
+returns-in-TimeOut c = let e = c.in-TimeOut.is in record { value = rw e c.time_out.ensures; leaves = rw e; given = rw e }
 
-pub returns-2 : goal.returns-2
+pub returns-in-Close : goal.returns-in-Close
 unfolding played played_leaves played_buffer
-returns-2 c = let e = c.e2.given.1 in let t = c.turn-2.ensures in (rw e t.0, (rw e t.1.0, rw e t.1.1))
+returns-in-Close c = let e = c.in-Close.is in record { value = rw e c.close.ensures; leaves = rw e; given = rw e }
 
-pub returns-3 : goal.returns-3
+pub returns-in-Failing : goal.returns-in-Failing
 unfolding played played_leaves played_buffer
-returns-3 c = let e = c.e3.given.1 in (rw e c.spurious.ensures, (rw e, rw e))
+returns-in-Failing c = let e = c.in-Failing.is in let t = c.turn-in-Failing.ensures in record { value = rw e t.value; leaves = rw e t.leaves; given = rw e t.given }
 
-pub returns-4 : goal.returns-4
+pub returns-in-Pop : goal.returns-in-Pop
 unfolding played played_leaves played_buffer
-returns-4 c = let e = c.e4.given.1 in (rw e c.time_out.ensures, (rw e, rw e))
+returns-in-Pop c = let e = c.in-Pop.is in record { value = rw e c.pop.ensures; leaves = rw e; given = rw e }
 
-pub returns-5 : goal.returns-5
+pub returns-in-Spurious : goal.returns-in-Spurious
 unfolding played played_leaves played_buffer
-returns-5 c = let e = c.e5.given.1 in (rw e c.push.ensures, (rw e, rw e))
+returns-in-Spurious c = let e = c.in-Spurious.is in record { value = rw e c.spurious.ensures; leaves = rw e; given = rw e }
 
-pub returns-6 : goal.returns-6
+pub returns-in-Turn : goal.returns-in-Turn
 unfolding played played_leaves played_buffer
-returns-6 c = let e = c.e6.given.1 in (rw e c.pop.ensures, (rw e, rw e))
+returns-in-Turn c = let e = c.in-Turn.is in let t = c.turn.ensures in record { value = rw e t.value; leaves = rw e t.leaves; given = rw e t.given }
 
-pub returns-7 : goal.returns-7
+pub returns-in-Shutdown : goal.returns-in-Shutdown
 unfolding played played_leaves played_buffer
-returns-7 c = let e = c.e7.given.1 in (rw e c.close.ensures, (rw e, rw e))
+returns-in-Shutdown c = let e = c.in-Shutdown.is in record { value = rw e c.shutdown.ensures; leaves = rw e; given = rw e }
 
-pub returns-8 : goal.returns-8
+pub returns-in-Push : goal.returns-in-Push
 unfolding played played_leaves played_buffer
-returns-8 c = let e = c.e8.given.1 in (rw e c.shutdown.ensures, (rw e, rw e))
+returns-in-Push c = let e = c.in-Push.is in record { value = rw e c.push.ensures; leaves = rw e; given = rw e }
