@@ -12,10 +12,10 @@ pub returns : goal.returns
 returns c =
     let a = c.args in
     let p = c.feed_slices.ensures in
-    let l : length a.input.now ≡ block_bytes = c.feed-slices-arg4.given.0.1 in
-    let e : take c.least.result a.input.now ≡ take a.have a.input.now =
-    rw c.least.ensures.0 (lent-front a.input.now a.have block_bytes l) in
-    let t : length (take c.least.result a.input.now) ≡ c.least.result = length-take-le c.least.result a.input.now (omega (arith, c.least.ensures.1)) in
+    let l : length a.input.now ≡ block_bytes = c.feed_slices-arg-4-1.given.0.1 in
+    let e : take c.least-n.result a.input.now ≡ take a.have a.input.now =
+    rw c.least-n.ensures.0 (lent-front a.input.now a.have block_bytes l) in
+    let t : length (take c.least-n.result a.input.now) ≡ c.least-n.result = length-take-le c.least-n.result a.input.now (omega (arith, c.least-n.ensures.1)) in
     let q = p.1.1.1 in (
       rw e at p.0,
       (
@@ -25,10 +25,10 @@ returns c =
           (
             rw e at q,
             (
-              omega (arith, q.0, c.least.ensures.1),
-              rw q.1 (left-short (take c.least.result a.input.now)),
-              omega (arith, c.feed-slices.auto),
-              omega (arith, c.feed-slices.auto, c.feed-slices-arg5.given.0.1),
+              omega (arith, q.0, c.least-n.ensures.1),
+              rw q.1 (left-short (take c.least-n.result a.input.now)),
+              omega (arith, c.feed_slices.auto),
+              omega (arith, c.feed_slices.auto, c.feed_slices-arg-5-1.given.0.1),
             ),
           ),
         ),

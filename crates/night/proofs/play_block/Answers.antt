@@ -13,13 +13,13 @@ use Rattle.night.specs.Pieces.{whole_in}
 use Rattle.night.proofs.Blocks.{nights-more, told_more}
 use Rattle.night.proofs.play_block.Goals as goal
 
-pub loop-init : goal.loop-init
+pub loop-k-init : goal.loop-k-init
 unfolding nights reports
-loop-init c = search rules
+loop-k-init c = search rules
 
-pub play-record-requires : goal.play-record-requires
-play-record-requires c κs =
-    let l = c.loop in
+pub play_record-bench-requires : goal.play_record-bench-requires
+play_record-bench-requires c =
+    let l = c.loop-k in
     let a = c.args in (
       l.invariant.2,
       l.invariant.3,
@@ -27,25 +27,21 @@ play-record-requires c κs =
       rw add-sub_cancel_left (length_part l.out (record_bytes * l.k) record_bytes (omega arith)),
     )
 
--- the search does not look as far back as the loop's test
-pub overflow-add-k : goal.overflow-add-k
-overflow-add-k c = record { fits = omega (arith, c.loop-test.true, c.loop.invariant.7) }
+pub loop-k-smaller : goal.loop-k-smaller
+loop-k-smaller c = omega (arith, c.loop-k-test.true)
 
-pub loop-smaller : goal.loop-smaller
-loop-smaller c = omega (arith, c.loop-test.true)
-
-pub loop-preserved : goal.loop-preserved
-loop-preserved c =
-    let p = c.play-record in
-    let l = c.loop in
+pub loop-k-preserved : goal.loop-k-preserved
+loop-k-preserved c =
+    let p = c.play_record-bench in
+    let l = c.loop-k in
     let a = c.args in
     let w = night_of a.region.now a.b a.payload.now a.buffer.now in
     let t = simp (add-sub_cancel_left, l.invariant.5) at p.ensures.1 in (
-      omega (arith, c.loop-test.true),
+      omega (arith, c.loop-k-test.true),
       omega (arith, p.auto),
       omega (arith, p.auto),
       omega (arith, p.auto),
-      omega (arith, c.out.given),
+      omega (arith, c.out-1.given),
       rw (nights-more w a.script.now l.k, ← l.invariant.5) (rw add-sub_cancel_left at p.ensures.0),
       rw (t, l.invariant.6) (told_more w a.script.now l.k a.out.now),
       l.invariant.7,
@@ -53,6 +49,10 @@ loop-preserved c =
 
 pub returns : goal.returns
 returns c =
-    let l = c.loop in
+    let l = c.loop-k in
     let e : l.k ≡ whole_in c.args.script.now = omega arith in
     (rw e at l.invariant.5, rw e at l.invariant.6)
+
+-- the search does not look as far back as the loop's test
+pub UNKNOWN-overflow-add-k : goal.UNKNOWN-overflow-add-k
+UNKNOWN-overflow-add-k c = record { fits = omega (arith, c.loop-k-test.true, c.loop-k.invariant.7) }

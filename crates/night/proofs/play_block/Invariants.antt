@@ -13,8 +13,8 @@ use Rattle.night.specs.Pieces.{whole_in}
 use Rattle.night.proofs.Blocks.{nights-more, told_more}
 use Rattle.night.proofs.play_block.Given as goal
 
-abbrev pub invariant-loop : goal.invariant-loop
-invariant-loop region₀ payload₀ buffer₀ script out₀ n bench₀ k₀ region payload buffer out bench k =
+abbrev pub invariant-loop-k : goal.invariant-loop-k
+invariant-loop-k l = invariant-loop-k region₀ payload₀ buffer₀ script out₀ n bench₀ k₀ region payload buffer out bench k =
     (k ≤ n)
     × (length region ≡ length region₀)
     × (length payload ≡ payload_bytes)
@@ -24,5 +24,5 @@ invariant-loop region₀ payload₀ buffer₀ script out₀ n bench₀ k₀ regi
     × (out ≡ reports k (night_of region₀ bench₀ payload₀ buffer₀) script ++ drop (record_bytes * k) out₀)
     × (length script < 2 ^ 64)
 
-abbrev pub decreases-loop : goal.decreases-loop
-decreases-loop region₀ payload₀ buffer₀ script out₀ n bench₀ k₀ region payload buffer out bench k = n - k
+abbrev pub decreases-loop-k : goal.decreases-loop-k
+decreases-loop-k l = l.n - l.k
