@@ -23,4 +23,9 @@ returns c =
     let p = c.play_block-bench.ensures in
     let t : length (take a.have a.input.now) ≡ a.have = length-take-le a.have a.input.now c.requires.2 in
     let s = left-lies a.input.now a.have (a.have / record_bytes * record_bytes) c.requires.2 (omega arith) in
-    (p.0, (p.1, (rw s at c.shift.ensures, (rw t (omega arith), rw (length-drop, t) (omega arith)))))
+    record {
+      leaves = p.leaves;
+      tells = p.tells;
+      waits = rw s at c.shift.ensures;
+      counts = (rw t (omega arith), rw (length-drop, t) (omega arith));
+    }

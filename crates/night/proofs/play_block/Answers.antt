@@ -36,13 +36,13 @@ loop-k-preserved c =
     let l = c.loop-k in
     let a = c.args in
     let w = night_of a.region.now a.b a.payload.now a.buffer.now in
-    let t = simp (add-sub_cancel_left, l.invariant.5) at p.ensures.1 in (
+    let t = simp (add-sub_cancel_left, l.invariant.5) at p.ensures.tells in (
       omega (arith, c.loop-k-test.true),
       omega (arith, p.auto),
       omega (arith, p.auto),
       omega (arith, p.auto),
       omega (arith, c.out-1.given),
-      rw (nights-more w a.script.now l.k, ← l.invariant.5) (rw add-sub_cancel_left at p.ensures.0),
+      rw (nights-more w a.script.now l.k, ← l.invariant.5) (rw add-sub_cancel_left at p.ensures.leaves),
       rw (t, l.invariant.6) (told_more w a.script.now l.k a.out.now),
       l.invariant.7,
     )
@@ -51,8 +51,4 @@ pub returns : goal.returns
 returns c =
     let l = c.loop-k in
     let e : l.k ≡ whole_in c.args.script.now = omega arith in
-    (rw e at l.invariant.5, rw e at l.invariant.6)
-
--- the search does not look as far back as the loop's test
-pub UNKNOWN-overflow-add-k : goal.UNKNOWN-overflow-add-k
-UNKNOWN-overflow-add-k c = record { fits = omega (arith, c.loop-k-test.true, c.loop-k.invariant.7) }
+    record { leaves = rw e at l.invariant.5; tells = rw e at l.invariant.6 }

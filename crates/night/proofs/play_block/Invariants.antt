@@ -14,15 +14,15 @@ use Rattle.night.proofs.Blocks.{nights-more, told_more}
 use Rattle.night.proofs.play_block.Given as goal
 
 abbrev pub invariant-loop-k : goal.invariant-loop-k
-invariant-loop-k l = invariant-loop-k region₀ payload₀ buffer₀ script out₀ n bench₀ k₀ region payload buffer out bench k =
-    (k ≤ n)
-    × (length region ≡ length region₀)
-    × (length payload ≡ payload_bytes)
-    × (length buffer ≡ payload_bytes)
-    × (length out ≡ length out₀)
-    × (night_of region bench payload buffer ≡ nights k (night_of region₀ bench₀ payload₀ buffer₀) script)
-    × (out ≡ reports k (night_of region₀ bench₀ payload₀ buffer₀) script ++ drop (record_bytes * k) out₀)
-    × (length script < 2 ^ 64)
+invariant-loop-k l =
+    (l.k ≤ l.n)
+    × (length l.region ≡ length l.initial.region)
+    × (length l.payload ≡ payload_bytes)
+    × (length l.buffer ≡ payload_bytes)
+    × (length l.out ≡ length l.initial.out)
+    × (night_of l.region l.bench l.payload l.buffer ≡ nights l.k (night_of l.initial.region l.initial.bench l.initial.payload l.initial.buffer) l.script)
+    × (l.out ≡ reports l.k (night_of l.initial.region l.initial.bench l.initial.payload l.initial.buffer) l.script ++ drop (record_bytes * l.k) l.initial.out)
+    × (length l.script < 2 ^ 64)
 
 abbrev pub decreases-loop-k : goal.decreases-loop-k
 decreases-loop-k l = l.n - l.k
