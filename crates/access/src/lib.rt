@@ -1,5 +1,6 @@
 // The one access of a turn on a lent region.
 #![tactic(auto)]
+
 ghost use Rattle.std.specs.Prelude.{◌≡◌, length};
 ghost use Rattle.rules.specs.Access.{value_of, leaves_of, buffer_of};
 ghost use Rattle.access.specs.Fitted.{Fitted};

@@ -1,5 +1,6 @@
 // A turn that is not refused: the party's next access, that access, and what becomes of the party.
 #![tactic(auto)]
+
 ghost use Rattle.std.specs.Prelude.{◌≡◌, length};
 ghost use Rattle.rules.specs.Next.{next_spec};
 ghost use Rattle.rules.specs.Turn.{act_spec, act_leaves, act_buffer};

@@ -1,5 +1,6 @@
 // What a record asks, played on the bench.
 #![tactic(auto)]
+
 ghost use Rattle.std.specs.Prelude.{◌≡◌, length};
 ghost use Rattle.records.specs.Records.{payload_bytes};
 ghost use Rattle.opening.specs.Night.{night_of};

@@ -1,5 +1,6 @@
 // Attach: the record of the party that joins a region, once its spin count and the region have passed their checks.
 #![tactic(auto)]
+
 ghost use Rattle.std.specs.Prelude.{◌≡◌, ◌≤◌, length};
 ghost use Rattle.words.specs.Le.{le_at, put_le};
 ghost use Rattle.types.specs.Answers.{first_of};

@@ -1,5 +1,6 @@
 // Both parties and their sleeping places: what an event of a run makes of them, of the region and of the buffer.
 #![tactic(auto)]
+
 ghost use Rattle.std.specs.Prelude.{◌≡◌};
 ghost use Rattle.rules.specs.Turn.{turn_leaves, turn_buffer};
 ghost use Rattle.rules.specs.Bench.{party_of, turn_played, played, played_leaves, played_buffer};

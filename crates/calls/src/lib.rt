@@ -1,5 +1,6 @@
 // A party between its turns: the calls that it begins, and what comes to it while it sleeps.
 #![tactic(auto)]
+
 ghost use Rattle.std.specs.Prelude.{◌≡◌};
 ghost use Rattle.rules.specs.Calls.{push_spec, pop_spec, close_spec, shut_spec, spurious_spec, timeout_spec};
 

@@ -1,5 +1,6 @@
 // The checks of a region that a party would join, in their order.
 #![tactic(auto)]
+
 ghost use Rattle.std.specs.Prelude.{◌≡◌, ◌&&◌, ◌+◌, ◌≤◌, eqb, length};
 ghost use Rattle.types.specs.Answers.{first_of};
 ghost use Rattle.layout.specs.Limits.{header_bytes};

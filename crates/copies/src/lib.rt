@@ -1,5 +1,6 @@
 // The slot of a counter, copied in and out. A party goes by its own sizes and never by the region's.
 #![tactic(auto)]
+
 ghost use Rattle.std.specs.Prelude.{◌≡◌, true, ◌+◌, ◌≤◌, length};
 ghost use Rattle.words.specs.Bytes.{part};
 ghost use Rattle.layout.specs.Limits.{slot_head_bytes, power_ok, payload_capacity};

@@ -1,5 +1,6 @@
 // A slot of the ring, filled: a part of the region that starts in its middle.
 #![tactic(auto)]
+
 ghost use Rattle.std.specs.Prelude.{◌≡◌, ◌+◌, ◌^◌, ◌<◌, ◌≤◌, length};
 ghost use Rattle.layout.specs.Limits.{slot_head_bytes};
 ghost use Rattle.layout.specs.Slots.{slot_put};

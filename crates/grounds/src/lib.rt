@@ -1,5 +1,6 @@
 // The grounds on which a turn is refused before it is played.
 #![tactic(auto)]
+
 ghost use Rattle.std.specs.Prelude.{◌≡◌};
 ghost use Rattle.rules.specs.Turn.{error_of, fault_ok, lent_to, lent_ok, goes};
 ghost use Rattle.rules.specs.Take.{stance_of};

@@ -1,5 +1,6 @@
 // A whole header, written over whatever was there.
 #![tactic(auto)]
+
 ghost use Rattle.std.specs.Prelude.{◌≡◌, ◌+◌, ◌^◌, ◌<◌, ◌≤◌, length};
 ghost use Rattle.layout.specs.Limits.{header_bytes};
 ghost use Rattle.layout.specs.Header.{put_fields, blank, headed};

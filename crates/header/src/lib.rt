@@ -1,5 +1,6 @@
 // The header of a region: where its fields lie, what its flags are worth, and functions that read them.
 #![tactic(auto)]
+
 ghost use Rattle.std.specs.Prelude.{◌≡◌, ◌+◌, ◌≤◌, length};
 ghost use Rattle.words.specs.Le.{le_at};
 ghost use Rattle.layout.specs.Limits.{header_bytes};

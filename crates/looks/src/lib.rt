@@ -1,5 +1,6 @@
 // What a value that a turn loaded says to a party.
 #![tactic(auto)]
+
 ghost use Rattle.std.specs.Prelude.{◌≡◌};
 ghost use Rattle.rules.specs.Looks.{door_of, head_bad, fit_of, nap_of};
 

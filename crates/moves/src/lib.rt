@@ -1,5 +1,6 @@
 // Where a turn leads, by its step.
 #![tactic(auto)]
+
 ghost use Rattle.std.specs.Prelude.{◌≡◌};
 ghost use Rattle.rules.specs.Take.{move_at};
 

@@ -1,5 +1,6 @@
 // The one shared access of a party's next turn, by its record alone. The region is not touched.
 #![tactic(auto)]
+
 ghost use Rattle.std.specs.Prelude.{◌≡◌};
 ghost use Rattle.rules.specs.Next.{slot_access, next_at, next_spec};
 

@@ -1,5 +1,6 @@
 // A whole script, played as it comes: in pieces, cut anywhere.
 #![tactic(auto)]
+
 ghost use Rattle.std.specs.Prelude.{◌≡◌, ◌++◌, ◌+◌, ◌*◌, ◌≤◌, ◌<◌, length, take, drop};
 ghost use Rattle.std.proofs.lemmas.List.Edits.{sets};
 ghost use Rattle.records.specs.Records.{record_bytes, payload_bytes};

@@ -1,5 +1,6 @@
 // How a script begins: on a fresh region, with both parties attached, neither of which spins.
 #![tactic(auto)]
+
 ghost use Rattle.std.specs.Prelude.{◌≡◌, length, replicate};
 ghost use Rattle.opening.specs.Night.{night_of, start};
 

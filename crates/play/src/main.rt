@@ -1,6 +1,7 @@
 // Plays a script of 32-byte records from standard input, and writes a record for each to standard output. The work is
 // the libraries': here bytes are read and written, and nothing else.
 #![tactic(auto)]
+
 ghost use Rattle.std.specs.Prelude.{◌≤◌, length};
 
 use libc::{STDIN_FILENO, STDOUT_FILENO};

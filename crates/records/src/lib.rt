@@ -1,5 +1,6 @@
 // The script program's records: what one asks.
 #![tactic(auto)]
+
 ghost use Rattle.std.specs.Prelude.{◌≡◌, length};
 ghost use Rattle.records.specs.Records.{record_bytes, action_of, side_of, when, move_asked, asked_at, asked_in};
 

@@ -1,5 +1,6 @@
 // How a call is begun, and how a sleeper rises: the order of what is refused.
 #![tactic(auto)]
+
 ghost use Rattle.std.specs.Prelude.{◌≡◌};
 ghost use Rattle.rules.specs.Calls.{reply, at, named, begins, rouses};
 

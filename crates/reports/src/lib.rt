@@ -1,5 +1,6 @@
 // How an answer is reported, and how much of a payload or another slice is lent.
 #![tactic(auto)]
+
 ghost use Rattle.std.specs.Prelude.{◌≡◌, ◌≤◌, min, eqb, length, take};
 ghost use Rattle.types.specs.Pick.{pick};
 ghost use Rattle.records.specs.Records.{record_bytes, payload_bytes, report_of, cut_report};

@@ -1,5 +1,6 @@
 // What the counters say to a side.
 #![tactic(auto)]
+
 ghost use Rattle.std.specs.Prelude.{◌≡◌};
 ghost use Rattle.rules.specs.Looks.{room_with, room_of, was_blocked};
 

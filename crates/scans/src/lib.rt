@@ -1,5 +1,6 @@
 // Tests of runs of bytes in a lent slice.
 #![tactic(auto)]
+
 ghost use Rattle.std.specs.Prelude.{◌≡◌, ◌+◌, ◌*◌, ◌≤◌, length};
 ghost use Rattle.words.specs.Bytes.{zeros, bytes_are};
 

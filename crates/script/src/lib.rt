@@ -1,5 +1,6 @@
 // One record of a script: what it asks is played, and reported.
 #![tactic(auto)]
+
 ghost use Rattle.std.specs.Prelude.{◌≡◌, ◌&&◌, length};
 ghost use Rattle.types.specs.Pick.{pick};
 ghost use Rattle.records.specs.Records.{record_bytes, payload_bytes, payload_in};

@@ -1,5 +1,6 @@
 // The two seats of a bench, and what becomes of them when a party has had its turn.
 #![tactic(auto)]
+
 ghost use Rattle.std.specs.Prelude.{◌≡◌};
 ghost use Rattle.rules.specs.Bench.{party_of, seat, settled, turned};
 

@@ -1,5 +1,6 @@
 // What an event that is no turn makes of both parties: a begin, a spurious return, a time-out.
 #![tactic(auto)]
+
 ghost use Rattle.std.specs.Prelude.{◌≡◌};
 ghost use Rattle.rules.specs.Calls.{push_spec, pop_spec, close_spec, shut_spec, spurious_spec, timeout_spec};
 ghost use Rattle.rules.specs.Bench.{party_of, settled};

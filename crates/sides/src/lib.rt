@@ -1,5 +1,6 @@
 // What differs by the side.
 #![tactic(auto)]
+
 ghost use Rattle.std.specs.Prelude.{◌≡◌};
 ghost use Rattle.rules.specs.Sides.{other, same_side, used, limit, blocked_answer, ring_bell, sleep_bell, rings, wait_op, wake_op};
 

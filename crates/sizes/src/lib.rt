@@ -1,6 +1,7 @@
 // The house limits, and the sizes that follow from a power and a slot size. Nothing here wraps: a capacity is at most
 // 2^30 and a slot size below 2^32.
 #![tactic(auto)]
+
 ghost use Rattle.std.specs.Prelude.{◌≡◌, true};
 ghost use Rattle.layout.specs.Limits.{power_ok, slot_ok, spins_ok, capacity, payload_capacity, ring_bytes, total_bytes};
 ghost use Rattle.layout.specs.Slots.{slot_at};

@@ -1,5 +1,6 @@
 // A slot of the ring, read: a part of the region that starts in its middle.
 #![tactic(auto)]
+
 ghost use Rattle.std.specs.Prelude.{◌≡◌, ◌+◌, ◌≤◌, length};
 ghost use Rattle.words.specs.Bytes.{part};
 ghost use Rattle.layout.specs.Limits.{slot_head_bytes};

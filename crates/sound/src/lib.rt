@@ -1,5 +1,6 @@
 // The tests of a party's record: 20's grounds that lie in it, whether a call runs, and whether the party sleeps.
 #![tactic(auto)]
+
 ghost use Rattle.std.specs.Prelude.{◌≡◌, ◌&&◌};
 ghost use Rattle.rules.specs.Calls.{is_resting, is_sleeping, length_ok, sound, ready};
 ghost use Rattle.rules.specs.Take.{stance_of};

@@ -1,5 +1,6 @@
 // Where a turn of a push or a pop leads, a function a step. A party's own copy of sizes and options is `own`.
 #![tactic(auto)]
+
 ghost use Rattle.std.specs.Prelude.{◌≡◌};
 ghost use Rattle.types.specs.Pick.{pick};
 ghost use Rattle.rules.specs.Looks.{room_here};

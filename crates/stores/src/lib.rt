@@ -1,5 +1,6 @@
 // The words of a header that a turn stores: a counter, a bell, a flag.
 #![tactic(auto)]
+
 ghost use Rattle.std.specs.Prelude.{◌≡◌, ◌≤◌, length};
 ghost use Rattle.words.specs.Le.{le_at, put_le};
 ghost use Rattle.words.specs.Wrap.{next};

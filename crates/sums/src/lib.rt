@@ -1,5 +1,6 @@
 // Bytes, parties and answers summed up in a number, so that a report shows whether anything changed.
 #![tactic(auto)]
+
 ghost use Rattle.std.specs.Prelude.{◌≡◌};
 ghost use Rattle.types.specs.Answers.{told_of};
 ghost use Rattle.sums.specs.Sums.{mix as mix_of, mix_wide, mix_bytes, pair as pair_of, whose as whose_of, stand_of, own_sum, party_sum, party_word, told_word, bytes_word, came_sum};

@@ -1,5 +1,6 @@
 // What becomes of a party when its turn's one access gave back a value, or was announced to fail. The region is not touched.
 #![tactic(auto)]
+
 ghost use Rattle.std.specs.Prelude.{◌≡◌};
 ghost use Rattle.rules.specs.Take.{step_after, answer_of, counter_after, closed_after, take_spec};
 

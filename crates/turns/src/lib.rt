@@ -1,5 +1,6 @@
 // A turn over a lent region: what is refused is tested, and else the party acts.
 #![tactic(auto)]
+
 ghost use Rattle.std.specs.Prelude.{◌≡◌, []};
 ghost use Rattle.rules.specs.Turn.{refused, turn_spec, turn_leaves, turn_buffer};
 

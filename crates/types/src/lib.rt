@@ -1,5 +1,6 @@
 // The declared types: a party and what it is told. One party struct and one step enum serve both sides.
 #![tactic(auto)]
+
 ghost use Rattle.std.specs.Prelude.{◌≡◌, ◌&&◌};
 ghost use Rattle.types.specs.Answers.{told_of};
 

@@ -1,5 +1,6 @@
 // Where a turn of a wait, a close or a shutdown leads, a function a step.
 #![tactic(auto)]
+
 ghost use Rattle.std.specs.Prelude.{◌≡◌};
 ghost use Rattle.types.specs.Pick.{pick};
 ghost use Rattle.rules.specs.Steps.{left_move, door_move, gate_move, to_spin, spin_move, again_move, nap_move, wait_move, last_move, close_move, shut_move};

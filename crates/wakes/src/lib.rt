@@ -1,5 +1,6 @@
 // Whom a turn wakes, and what a wake makes of a party.
 #![tactic(auto)]
+
 ghost use Rattle.std.specs.Prelude.{◌≡◌};
 ghost use Rattle.rules.specs.Turn.{woke_with, woke_of};
 ghost use Rattle.rules.specs.Bench.{same_bell, hears, wakened};

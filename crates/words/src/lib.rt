@@ -1,5 +1,6 @@
 // Little-endian words in a lent slice, and words that wrap.
 #![tactic(auto)]
+
 ghost use Rattle.std.specs.Prelude.{◌≡◌, ◌+◌, ◌<◌, ◌≤◌, length};
 ghost use Rattle.words.specs.Le.{le_at, put_le};
 ghost use Rattle.words.specs.Wrap.{minus, next};
