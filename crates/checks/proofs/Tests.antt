@@ -1,7 +1,6 @@
 -- A test whose value a call gave, and that an `if !..` took or left.
 use mathlib.Core.Path.{◌≡◌, sym, ◌∙◌}
-use mathlib.Core.Bool.{Bool, true, false, not}
-use borrow.Author.Tests.{not-true, not-false}
+use mathlib.Core.Bool.{Bool, true, false}
 
 pub passed : (b s : Bool) → b ≡ s → b ≡ true → s ≡ true
 passed b s e t = sym e ∙ t

@@ -1,5 +1,5 @@
 -- The script program's records: what one asks, and how an answer is reported.
-use Rattle.std.specs.Prelude.{Bool, ◌&&◌, List, [], ◌∷◌, ◌++◌, ℕ, ◌+◌, ◌/◌, ◌%◌, leb, eqb, take, replicate}
+use Rattle.std.specs.Prelude.{Bool, ◌&&◌, List, [], ◌∷◌, ◌++◌, ℕ, ◌/◌, ◌%◌, leb, eqb, take, replicate}
 use Rattle.words.specs.Bytes.{part}
 use Rattle.words.specs.Le.{le_at, le_bytes}
 use Rattle.types.specs.Pick.{pick}

@@ -1,4 +1,3 @@
-use borrow.Author.Rules.{rules}
 use Rattle.rules.specs.Access.{value_of, leaves_of, buffer_of}
 use Rattle.copies.proofs.Room.{header-in}
 use Rattle.access.proofs.perform.Goals as goal

@@ -1,4 +1,3 @@
-use borrow.Author.Rules.{rules}
 use Rattle.rules.specs.Turn.{act_spec, act_leaves, act_buffer}
 use Rattle.acts.proofs.act.Goals as goal
 

@@ -1,4 +1,3 @@
-use borrow.Author.Rules.{rules}
 use Rattle.asked.specs.Played.{played_by, region_by, buffer_by}
 use Rattle.asked.proofs.play_asked.Goals as goal
 

@@ -1,7 +1,3 @@
-use borrow.Author.Rules.{rules}
-use mathlib.Core.Path.{sym}
-use native.Mathlib.Omega.{arith}
-use lib.Seq.{length-take-le}
 use Rattle.records.specs.Records.{payload_bytes}
 use Rattle.reports.proofs.Clamped.{lent-front, lent-behind}
 use Rattle.asked.specs.Played.{played_by, region_by, buffer_by}

@@ -1,4 +1,3 @@
-use borrow.Author.Rules.{rules}
 use mathlib.Core.Path.{◌≡◌, sym, ap, ◌∙◌}
 use Rattle.types.specs.Answers.{number, told_of}
 use Rattle.types.specs.declared.Told.{Told}

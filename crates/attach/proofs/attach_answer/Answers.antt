@@ -1,6 +1,4 @@
-use borrow.Author.Rules.{rules}
 use mathlib.Core.Path.{sym, ◌∙◌}
-use borrow.Author.Tests.{not-true, not-false}
 use Rattle.layout.proofs.Accepted.{spins-refused, spins-taken}
 use Rattle.attach.proofs.attach_answer.Goals as goal
 

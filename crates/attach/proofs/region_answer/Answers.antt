@@ -1,4 +1,3 @@
-use borrow.Author.Rules.{rules}
 use mathlib.Core.Path.{sym}
 use Rattle.attach.proofs.Joined.{too_short}
 use Rattle.attach.proofs.region_answer.Goals as goal

@@ -1,4 +1,3 @@
-use borrow.Author.Rules.{rules}
 use Rattle.rules.specs.Bench.{played, played_leaves, played_buffer}
 use Rattle.bench.proofs.play.Goals as goal
 

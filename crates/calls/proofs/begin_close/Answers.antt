@@ -1,4 +1,3 @@
-use borrow.Author.Rules.{rules}
 use Rattle.rules.specs.Calls.{close_spec}
 use Rattle.calls.proofs.begin_close.Goals as goal
 

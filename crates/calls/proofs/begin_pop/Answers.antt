@@ -1,4 +1,3 @@
-use borrow.Author.Rules.{rules}
 use Rattle.rules.specs.Calls.{pop_spec}
 use Rattle.calls.proofs.begin_pop.Goals as goal
 

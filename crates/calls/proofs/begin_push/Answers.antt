@@ -1,4 +1,3 @@
-use borrow.Author.Rules.{rules}
 use Rattle.rules.specs.Calls.{push_spec}
 use Rattle.calls.proofs.begin_push.Goals as goal
 

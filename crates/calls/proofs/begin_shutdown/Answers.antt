@@ -1,4 +1,3 @@
-use borrow.Author.Rules.{rules}
 use Rattle.rules.specs.Calls.{shut_spec}
 use Rattle.calls.proofs.begin_shutdown.Goals as goal
 

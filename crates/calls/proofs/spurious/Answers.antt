@@ -1,4 +1,3 @@
-use borrow.Author.Rules.{rules}
 use Rattle.rules.specs.Calls.{spurious_spec}
 use Rattle.calls.proofs.spurious.Goals as goal
 

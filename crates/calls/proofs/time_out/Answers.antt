@@ -1,4 +1,3 @@
-use borrow.Author.Rules.{rules}
 use Rattle.rules.specs.Calls.{timeout_spec}
 use Rattle.calls.proofs.time_out.Goals as goal
 

@@ -1,4 +1,3 @@
-use borrow.Author.Rules.{rules}
 use borrow.Author.Tests.{le-leb, eq-eqb, ne_eqb}
 use Rattle.checks.proofs.Tests.{passed, refused}
 use Rattle.layout.specs.Attach.{region_checks}

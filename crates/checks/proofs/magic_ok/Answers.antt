@@ -1,4 +1,3 @@
-use borrow.Author.Rules.{rules}
 use Rattle.layout.specs.Attach.{magic_ok}
 use Rattle.checks.proofs.magic_ok.Goals as goal
 

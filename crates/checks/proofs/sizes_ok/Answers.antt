@@ -1,4 +1,3 @@
-use borrow.Author.Rules.{rules}
 use Rattle.layout.specs.Attach.{sizes_ok}
 use Rattle.checks.proofs.sizes_ok.Goals as goal
 

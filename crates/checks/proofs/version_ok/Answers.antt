@@ -1,4 +1,3 @@
-use borrow.Author.Rules.{rules}
 use Rattle.layout.specs.Attach.{version_ok}
 use Rattle.checks.proofs.version_ok.Goals as goal
 

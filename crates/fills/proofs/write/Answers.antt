@@ -1,4 +1,3 @@
-use borrow.Author.Rules.{rules}
 use Rattle.fills.proofs.Stores.{slot-stores}
 use Rattle.fills.proofs.write.Goals as goal
 

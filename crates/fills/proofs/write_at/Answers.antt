@@ -1,4 +1,3 @@
-use borrow.Author.Rules.{rules}
 use native.Mathlib.Omega.{arith}
 use Rattle.words.proofs.Sets.{sets-lent}
 use Rattle.layout.specs.Slots.{slot_bytes, slot_put}

@@ -1,4 +1,3 @@
-use borrow.Author.Rules.{rules}
 use Rattle.rules.specs.Turn.{goes}
 use Rattle.grounds.proofs.goes.Goals as goal
 

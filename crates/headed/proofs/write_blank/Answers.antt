@@ -1,4 +1,3 @@
-use borrow.Author.Rules.{rules}
 use Rattle.layout.specs.Header.{blank}
 use Rattle.headed.proofs.write_blank.Goals as goal
 

@@ -1,4 +1,3 @@
-use borrow.Author.Rules.{rules}
 use Rattle.headed.proofs.Table.{parts-written}
 use Rattle.headed.proofs.write_header.Goals as goal
 

@@ -1,4 +1,3 @@
-use borrow.Author.Rules.{rules}
 use Rattle.types.specs.declared.Mark.TheVariants.{Shutdown}
 use Rattle.layout.specs.Flags.{close_mark}
 use Rattle.rules.specs.Sides.{other}

@@ -1,4 +1,3 @@
-use borrow.Author.Rules.{rules}
 use Rattle.rules.specs.Next.{next_spec}
 use Rattle.next.proofs.next.Goals as goal
 

@@ -1,12 +1,10 @@
 use mathlib.Core.Path.{◌≡◌}
-use mathlib.Core.List.{◌++◌}
-use Prim.Native.Nat.{◌≤◌, ◌<◌, ◌-◌, ◌*◌, ◌^◌}
+use Prim.Native.Nat.{◌*◌}
 use borrow.Author.Rules.{rules}
 use native.Mathlib.Omega.{arith}
 use native.Mathlib.Nat.{add-sub_cancel_left}
-use lib.ListN.{length, drop}
 use Rattle.words.proofs.Sets.{length_part}
-use Rattle.records.specs.Records.{record_bytes, payload_bytes}
+use Rattle.records.specs.Records.{record_bytes}
 use Rattle.opening.specs.Night.{night_of}
 use Rattle.script.specs.Script.{nights, reports}
 use Rattle.night.specs.Pieces.{whole_in}

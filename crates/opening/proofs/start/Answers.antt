@@ -1,4 +1,3 @@
-use borrow.Author.Rules.{rules}
 use Rattle.opening.proofs.Begun.{begun, total}
 use Rattle.opening.proofs.start.Goals as goal
 

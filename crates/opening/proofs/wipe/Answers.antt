@@ -1,4 +1,3 @@
-use borrow.Author.Rules.{rules}
 use Rattle.opening.proofs.Begun.{wiped}
 use Rattle.opening.proofs.wipe.Goals as goal
 

@@ -1,4 +1,3 @@
-use borrow.Author.Rules.{rules}
 use Rattle.records.specs.Records.{asked_in}
 use Rattle.records.proofs.asked_in.Goals as goal
 

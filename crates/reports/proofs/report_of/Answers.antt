@@ -1,7 +1,3 @@
-use borrow.Author.Rules.{rules}
-use mathlib.Core.Path.{sym}
-use native.Mathlib.Omega.{arith}
-use lib.Seq.{length-take-le}
 use Rattle.reports.proofs.Filled.{report-stores}
 use Rattle.reports.proofs.report_of.Goals as goal
 

@@ -1,4 +1,3 @@
-use borrow.Author.Rules.{rules}
 use Rattle.rules.specs.Looks.{room_of}
 use Rattle.rooms.proofs.room_of.Goals as goal
 

@@ -1,4 +1,3 @@
-use borrow.Author.Rules.{rules}
 use Rattle.rules.specs.Looks.{was_blocked}
 use Rattle.rooms.proofs.was_blocked.Goals as goal
 

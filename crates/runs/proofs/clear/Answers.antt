@@ -1,10 +1,8 @@
-use mathlib.Core.Path.{◌≡◌}
-use Prim.Native.Nat.{ℕ, ◌≤◌, ◌-◌}
+use Prim.Native.Nat.{ℕ}
 use borrow.Author.Rules.{rules}
 use native.Mathlib.Omega.{arith}
 use native.Mathlib.Nat.{zero-add}
-use lib.ListN.{length, take, replicate, length-set, length-replicate, get_or-replicate}
-use lib.Seq.{sets, take_all}
+use lib.ListN.{replicate, length-set, length-replicate, get_or-replicate}
 use Rattle.runs.proofs.Turns.{sets_more}
 use Rattle.runs.proofs.clear.Goals as goal
 

@@ -1,11 +1,7 @@
 use mathlib.Core.Path.{◌≡◌}
-use Prim.Native.Nat.{ℕ, ◌≤◌, ◌-◌}
-use borrow.Author.Rules.{rules}
-use native.Mathlib.Omega.{arith}
-use native.Mathlib.Nat.{zero-add}
-use lib.ListN.{length, take, replicate, length-set, length-replicate, get_or-replicate}
-use lib.Seq.{sets, take_all}
-use Rattle.runs.proofs.Turns.{sets_more}
+use Prim.Native.Nat.{◌≤◌, ◌-◌}
+use lib.ListN.{length, take, replicate}
+use lib.Seq.{sets}
 use Rattle.runs.proofs.clear.Given as goal
 
 abbrev pub invariant-loop-k : goal.invariant-loop-k

@@ -1,9 +1,6 @@
-use mathlib.Core.Path.{◌≡◌}
-use Prim.Native.Nat.{◌≤◌, ◌-◌}
 use borrow.Author.Rules.{rules}
 use native.Mathlib.Omega.{arith}
-use lib.ListN.{length, take, length-set}
-use lib.Seq.{sets, take_all}
+use lib.ListN.{length-set}
 use Rattle.runs.proofs.Turns.{sets_more}
 use Rattle.runs.proofs.copy_in.Goals as goal
 

@@ -1,10 +1,7 @@
 use mathlib.Core.Path.{◌≡◌}
 use Prim.Native.Nat.{◌≤◌, ◌-◌}
-use borrow.Author.Rules.{rules}
-use native.Mathlib.Omega.{arith}
-use lib.ListN.{length, take, length-set}
-use lib.Seq.{sets, take_all}
-use Rattle.runs.proofs.Turns.{sets_more}
+use lib.ListN.{length, take}
+use lib.Seq.{sets}
 use Rattle.runs.proofs.copy_in.Given as goal
 
 abbrev pub invariant-loop-k : goal.invariant-loop-k

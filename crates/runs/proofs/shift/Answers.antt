@@ -1,11 +1,6 @@
-use mathlib.Core.Path.{◌≡◌}
-use Prim.Native.Nat.{◌≤◌, ◌-◌}
 use borrow.Author.Rules.{rules}
 use native.Mathlib.Omega.{arith}
-use lib.ListN.{length, take, length-set}
-use lib.Seq.{sets, take_all}
-use Rattle.words.specs.Bytes.{part}
-use Rattle.words.proofs.Sets.{length_part}
+use lib.ListN.{length-set}
 use Rattle.runs.proofs.Turns.{moved_more}
 use Rattle.runs.proofs.shift.Goals as goal
 

@@ -1,12 +1,8 @@
 use mathlib.Core.Path.{◌≡◌}
 use Prim.Native.Nat.{◌≤◌, ◌-◌}
-use borrow.Author.Rules.{rules}
-use native.Mathlib.Omega.{arith}
-use lib.ListN.{length, take, length-set}
-use lib.Seq.{sets, take_all}
+use lib.ListN.{length, take}
+use lib.Seq.{sets}
 use Rattle.words.specs.Bytes.{part}
-use Rattle.words.proofs.Sets.{length_part}
-use Rattle.runs.proofs.Turns.{moved_more}
 use Rattle.runs.proofs.shift.Given as goal
 
 abbrev pub invariant-loop-k : goal.invariant-loop-k

@@ -1,6 +1,5 @@
 use mathlib.Core.Path.{sym, ◌∙◌}
 use mathlib.Core.Bool.{true, false}
-use borrow.Author.Rules.{rules}
 use Rattle.scans.proofs.Zeros.{odd-first}
 use Rattle.scans.proofs.all_zero.Goals as goal
 

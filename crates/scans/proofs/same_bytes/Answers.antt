@@ -1,9 +1,5 @@
-use mathlib.Core.Path.{◌≡◌, sym}
-use Prim.Native.Nat.{ℕ, ◌+◌, ◌≤◌, ◌<◌, ◌-◌}
-use borrow.Author.Rules.{rules}
-use borrow.Author.Count.{below_more}
+use mathlib.Core.Path.{sym}
 use native.Mathlib.Omega.{arith}
-use lib.ListN.{length, get_or}
 use Rattle.words.proofs.Runs.{bytes_are-true, bytes_are-false}
 use Rattle.scans.proofs.same_bytes.Goals as goal
 

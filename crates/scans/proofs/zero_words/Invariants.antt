@@ -1,10 +1,7 @@
-use mathlib.Core.Path.{◌≡◌, sym, ◌∙◌}
+use mathlib.Core.Path.{◌≡◌}
 use mathlib.Core.Bool.{true}
-use Prim.Native.Nat.{◌+◌, ◌*◌, ◌≤◌, ◌-◌}
-use borrow.Author.Rules.{rules}
-use native.Mathlib.Omega.{arith}
+use Prim.Native.Nat.{◌*◌, ◌≤◌, ◌-◌}
 use Rattle.words.specs.Bytes.{zeros}
-use Rattle.scans.proofs.Zeros.{zeros-more, zeros-fewer}
 use Rattle.scans.proofs.zero_words.Given as goal
 
 abbrev pub invariant-loop-k : goal.invariant-loop-k

@@ -1,5 +1,3 @@
-use borrow.Author.Rules.{rules}
-use native.Mathlib.Omega.{arith}
 use Rattle.script.specs.Script.{after, reported, payload_by}
 use Rattle.script.proofs.play_record.Goals as goal
 

@@ -1,4 +1,3 @@
-use borrow.Author.Rules.{rules}
 use Rattle.rules.specs.Bench.{settled}
 use Rattle.seats.proofs.settled.Goals as goal
 

@@ -1,4 +1,3 @@
-use borrow.Author.Rules.{rules}
 use Rattle.rules.specs.Bench.{turned}
 use Rattle.seats.proofs.turned.Goals as goal
 

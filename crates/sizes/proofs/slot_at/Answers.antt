@@ -1,4 +1,3 @@
-use borrow.Author.Rules.{rules}
 use native.Mathlib.Omega.{arith}
 use Rattle.layout.specs.Slots.{slot_at}
 use Rattle.layout.proofs.SizeLaws.{capacity-least, place-room}

@@ -1,4 +1,3 @@
-use borrow.Author.Rules.{rules}
 use native.Mathlib.Omega.{arith}
 use Rattle.layout.specs.Limits.{total_bytes}
 use Rattle.layout.proofs.SizeLaws.{ring-room}

@@ -1,4 +1,3 @@
-use borrow.Author.Rules.{rules}
 use mathlib.Core.Path.{refl}
 use Rattle.layout.specs.Slots.{head_of}
 use Rattle.slots.proofs.head_of.Goals as goal

@@ -1,4 +1,3 @@
-use borrow.Author.Rules.{rules}
 use native.Mathlib.Nat.{add-sub_cancel_left}
 use Rattle.slots.proofs.payload_at.Goals as goal
 

@@ -1,4 +1,3 @@
-use borrow.Author.Rules.{rules}
 use Rattle.layout.specs.Slots.{buffer_put}
 use Rattle.slots.proofs.read_payload.Goals as goal
 

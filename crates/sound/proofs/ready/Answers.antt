@@ -1,4 +1,3 @@
-use borrow.Author.Rules.{rules}
 use Rattle.rules.specs.Calls.{ready}
 use Rattle.sound.proofs.ready.Goals as goal
 

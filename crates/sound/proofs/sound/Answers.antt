@@ -1,4 +1,3 @@
-use borrow.Author.Rules.{rules}
 use Rattle.rules.specs.Calls.{sound}
 use Rattle.sound.proofs.sound.Goals as goal
 

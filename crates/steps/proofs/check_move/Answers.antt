@@ -1,4 +1,3 @@
-use borrow.Author.Rules.{rules}
 use Rattle.rules.specs.Steps.{check_move}
 use Rattle.steps.proofs.check_move.Goals as goal
 

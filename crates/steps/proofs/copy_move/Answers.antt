@@ -1,4 +1,3 @@
-use borrow.Author.Rules.{rules}
 use Rattle.rules.specs.Steps.{copy_move}
 use Rattle.steps.proofs.copy_move.Goals as goal
 

@@ -1,4 +1,3 @@
-use borrow.Author.Rules.{rules}
 use Rattle.rules.specs.Steps.{look_move}
 use Rattle.steps.proofs.look_move.Goals as goal
 

@@ -1,4 +1,3 @@
-use borrow.Author.Rules.{rules}
 use Rattle.rules.specs.Steps.{publish_move}
 use Rattle.steps.proofs.publish_move.Goals as goal
 

@@ -1,4 +1,3 @@
-use borrow.Author.Rules.{rules}
 use Rattle.rules.specs.Steps.{wake_move}
 use Rattle.steps.proofs.wake_move.Goals as goal
 

@@ -1,4 +1,3 @@
-use borrow.Author.Rules.{rules}
 use Rattle.sums.specs.Sums.{bytes_word}
 use Rattle.sums.proofs.bytes_word.Goals as goal
 

@@ -1,4 +1,3 @@
-use borrow.Author.Rules.{rules}
 use Rattle.sums.specs.Sums.{came_sum}
 use Rattle.sums.proofs.came_sum.Goals as goal
 

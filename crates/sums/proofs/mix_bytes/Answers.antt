@@ -1,9 +1,6 @@
-use mathlib.Core.Path.{◌≡◌, ◌∙◌}
-use Prim.Native.Nat.{◌≤◌, ◌-◌}
+use mathlib.Core.Path.{◌∙◌}
 use borrow.Author.Rules.{rules}
 use native.Mathlib.Omega.{arith}
-use lib.ListN.{length, take}
-use lib.Seq.{take_all}
 use Rattle.sums.specs.Sums.{mix_bytes}
 use Rattle.sums.proofs.Turns.{mix_bytes-more}
 use Rattle.sums.proofs.mix_bytes.Goals as goal

@@ -1,4 +1,3 @@
-use borrow.Author.Rules.{rules}
 use Rattle.sums.specs.Sums.{mix_wide}
 use Rattle.sums.proofs.mix_wide.Goals as goal
 

@@ -1,4 +1,3 @@
-use borrow.Author.Rules.{rules}
 use Rattle.sums.specs.Sums.{own_sum}
 use Rattle.sums.proofs.Bits.{cast-bit}
 use Rattle.sums.proofs.own_sum.Goals as goal

@@ -1,4 +1,3 @@
-use borrow.Author.Rules.{rules}
 use Rattle.sums.specs.Sums.{party_sum}
 use Rattle.sums.proofs.Bits.{cast-bit}
 use Rattle.sums.proofs.party_sum.Goals as goal

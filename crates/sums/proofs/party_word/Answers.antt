@@ -1,4 +1,3 @@
-use borrow.Author.Rules.{rules}
 use Rattle.sums.specs.Sums.{party_word}
 use Rattle.sums.proofs.party_word.Goals as goal
 

@@ -1,4 +1,3 @@
-use borrow.Author.Rules.{rules}
 use Rattle.sums.specs.Sums.{told_word}
 use Rattle.sums.proofs.told_word.Goals as goal
 

@@ -1,4 +1,3 @@
-use borrow.Author.Rules.{rules}
 use Rattle.rules.specs.Take.{move_of, take_spec}
 use Rattle.take.proofs.take.Goals as goal
 

@@ -1,4 +1,3 @@
-use borrow.Author.Rules.{rules}
 use Rattle.rules.specs.Steps.{again_move}
 use Rattle.waits.proofs.again_move.Goals as goal
 

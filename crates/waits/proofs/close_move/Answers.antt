@@ -1,4 +1,3 @@
-use borrow.Author.Rules.{rules}
 use Rattle.rules.specs.Steps.{close_move}
 use Rattle.waits.proofs.close_move.Goals as goal
 

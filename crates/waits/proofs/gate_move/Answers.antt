@@ -1,4 +1,3 @@
-use borrow.Author.Rules.{rules}
 use Rattle.rules.specs.Steps.{gate_move}
 use Rattle.waits.proofs.gate_move.Goals as goal
 

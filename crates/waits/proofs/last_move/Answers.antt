@@ -1,4 +1,3 @@
-use borrow.Author.Rules.{rules}
 use Rattle.rules.specs.Steps.{last_move}
 use Rattle.waits.proofs.last_move.Goals as goal
 

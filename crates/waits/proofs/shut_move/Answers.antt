@@ -1,4 +1,3 @@
-use borrow.Author.Rules.{rules}
 use Rattle.rules.specs.Steps.{shut_move}
 use Rattle.waits.proofs.shut_move.Goals as goal
 

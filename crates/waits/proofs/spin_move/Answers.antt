@@ -1,4 +1,3 @@
-use borrow.Author.Rules.{rules}
 use Rattle.rules.specs.Steps.{spin_move}
 use Rattle.waits.proofs.spin_move.Goals as goal
 

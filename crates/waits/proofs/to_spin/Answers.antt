@@ -1,4 +1,3 @@
-use borrow.Author.Rules.{rules}
 use borrow.Author.Tests.{eq-eqb, ne_eqb}
 use Rattle.rules.specs.Steps.{to_spin}
 use Rattle.waits.proofs.to_spin.Goals as goal

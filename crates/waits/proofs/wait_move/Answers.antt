@@ -1,4 +1,3 @@
-use borrow.Author.Rules.{rules}
 use Rattle.rules.specs.Steps.{wait_move}
 use Rattle.waits.proofs.wait_move.Goals as goal
 

@@ -1,4 +1,3 @@
-use borrow.Author.Rules.{rules}
 use Rattle.rules.specs.Bench.{wakened}
 use Rattle.wakes.proofs.wakened.Goals as goal
 

@@ -1,4 +1,4 @@
-use Rattle.std.proofs.Common.{arith, rules}
+use Rattle.std.proofs.Common.{arith}
 use Rattle.words.proofs.Wrapped.{minus_is}
 use Rattle.words.proofs.ahead64.Goals as goal
 

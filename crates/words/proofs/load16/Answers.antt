@@ -1,4 +1,4 @@
-use Rattle.std.proofs.Common.{add-one, arith, rules}
+use Rattle.std.proofs.Common.{add-one, arith}
 use Rattle.words.specs.Le.{le_at}
 use Rattle.words.proofs.load16.Goals as goal
 

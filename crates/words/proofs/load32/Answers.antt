@@ -1,4 +1,3 @@
-use Rattle.std.proofs.Common.{rules}
 use Rattle.words.proofs.Laws.{le_at-split}
 use Rattle.words.proofs.load32.Goals as goal
 

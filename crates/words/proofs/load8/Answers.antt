@@ -1,4 +1,4 @@
-use Rattle.std.proofs.Common.{arith, rules}
+use Rattle.std.proofs.Common.{arith}
 use Rattle.words.specs.Le.{le_at}
 use Rattle.words.proofs.load8.Goals as goal
 

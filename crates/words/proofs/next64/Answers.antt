@@ -1,4 +1,3 @@
-use Rattle.std.proofs.Common.{rules}
 use Rattle.words.specs.Wrap.{plus}
 use Rattle.words.proofs.next64.Goals as goal
 

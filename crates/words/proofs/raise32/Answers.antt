@@ -1,4 +1,3 @@
-use Rattle.std.proofs.Common.{rules}
 use Rattle.words.specs.Wrap.{plus}
 use Rattle.words.proofs.raise32.Goals as goal
 

@@ -1,4 +1,4 @@
-use Rattle.std.proofs.Common.{◌≡◌, ◌/◌, ◌%◌, add-one, arith, length-set, rules}
+use Rattle.std.proofs.Common.{◌≡◌, ◌/◌, ◌%◌, add-one, arith}
 use Rattle.words.specs.Le.{put_le, le_bytes}
 use Rattle.words.proofs.store16.Goals as goal
 

@@ -1,4 +1,3 @@
-use Rattle.std.proofs.Common.{rules}
 use Rattle.words.proofs.Laws.{put_le-split}
 use Rattle.words.proofs.store64.Goals as goal
 

@@ -1,4 +1,4 @@
-use Rattle.std.proofs.Common.{◌≡◌, ◌%◌, arith, rules}
+use Rattle.std.proofs.Common.{◌≡◌, ◌%◌, arith}
 use Rattle.words.specs.Le.{put_le, le_bytes}
 use Rattle.words.proofs.store8.Goals as goal
 
