@@ -58,7 +58,7 @@ module _ (P S v : ℕ) (on : Bool) (power-ok : power_ok P ≡ true) (Slot-ok : s
     head-is = ap (λ (s : List ℕ). head_of (head_word s)) slot_is ∙ holds.head
 
     -- what a copy that fits leaves in the buffer
-    filled : (named : ℕ) (lent : List ℕ) → fit_of (note_head n) (payload_capacity own.slot) named ≡ Fits → buffer_of r own (ReadSlot c) named lent ≡ n.body ++ drop (length n.body) lent
+    pub filled : (named : ℕ) (lent : List ℕ) → fit_of (note_head n) (payload_capacity own.slot) named ≡ Fits → buffer_of r own (ReadSlot c) named lent ≡ n.body ++ drop (length n.body) lent
     unfolding value_of buffer_of buffer_put
     filled named lent g = rw (head-is, g, slot_is, holds.payload)
 

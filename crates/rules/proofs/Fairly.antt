@@ -53,7 +53,7 @@ idle-good s n k z d glances = tt
 idle-good s n k z d closes = tt
 idle-good s n k z d shuts = tt
 
-idle-duty : (side : Side) (s : Step) → Idle s → duty side s ≡ none
+pub idle-duty : (side : Side) (s : Step) → Idle s → duty side s ≡ none
 idle-duty side s rests = refl
 idle-duty side s looks = refl
 idle-duty side s glances = refl
@@ -108,7 +108,7 @@ module _ (P S v : ℕ) (on : Bool) where
   called-other w side q (inr b) false y = rw (seat-two side w.bench q) y
 
   -- an attach: whoever joins is at rest, and no flag that stops anybody changes
-  stop-kept : (side mover : Side) (f : ℕ) → f < reserved_from → stop_at side (set_bit (worth (attach_mark mover)) f) ≡ stop_at side f
+  pub stop-kept : (side mover : Side) (f : ℕ) → f < reserved_from → stop_at side (set_bit (worth (attach_mark mover)) f) ≡ stop_at side f
   stop-kept Sender Sender f h = ap₂ ◌||◌ (mark_set (attach_mark Sender) f h ShutMark) (mark_set (attach_mark Sender) f h (close_mark Recorder))
   stop-kept Sender Recorder f h = ap₂ ◌||◌ (mark_set (attach_mark Recorder) f h ShutMark) (mark_set (attach_mark Recorder) f h (close_mark Recorder))
   stop-kept Recorder Sender f h = ap₂ ◌||◌ (mark_set (attach_mark Sender) f h ShutMark) (mark_set (attach_mark Sender) f h (close_mark Sender))

@@ -31,13 +31,13 @@ module _ (P S v : ℕ) (on : Bool) (power-ok : power_ok P ≡ true) (Slot-ok : s
   t = w.trace
 
   -- the note that a pop comes to is the first that waits
-  first-waits : 0 < room_in P S v on Recorder t → t.sent ≡ t.delivered ++ (nth t.sent (length t.delivered) ∷ drop (suc (length t.delivered)) t.sent)
+  pub first-waits : 0 < room_in P S v on Recorder t → t.sent ≡ t.delivered ++ (nth t.sent (length t.delivered) ∷ drop (suc (length t.delivered)) t.sent)
   first-waits h =
       sym (take-append-drop (length t.delivered) t.sent)
       ∙ ap (λ (x : List Note). x ++ drop (length t.delivered) t.sent) (sym real.queue.order)
       ∙ ap (λ (x : List Note). t.delivered ++ x) (drop-cons t.sent (length t.delivered) blank (omega arith))
 
-  good-fit : (own : Own) (c named : ℕ) → own ≡ sizes P S v on Recorder own.spins → c ≡ plus 64 v (length t.delivered) → 0 < room_in P S v on Recorder t
+  pub good-fit : (own : Own) (c named : ℕ) → own ≡ sizes P S v on Recorder own.spins → c ≡ plus 64 v (length t.delivered) → 0 < room_in P S v on Recorder t
       → ((n : Note) (rest : List Note) → t.sent ≡ t.delivered ++ (n ∷ rest) → length n.body ≤ named)
       → fit_of (head_of (value_of w.region own (slot_access Recorder c))) (payload_capacity own.slot) named ≡ Fits
   good-fit own c named o e h big =

@@ -55,7 +55,7 @@ module _ (side : Side) (w : World) (payload lent : List ℕ) (fault : Fault) whe
   closed-turn o (turn-taken g (left-again s q d)) = absurd (let e = sym q ∙ o g in let z : ◌≡◌ {A = ℕ} 0 1 = cc in omega arith)
   closed-turn o (turn-taken g (none_left s r)) = record { taken = g; last = s; blocked = r }
 
-none_seen : (k : ℕ) → as_room k ≡ Blocked → k ≡ 0
+pub none_seen : (k : ℕ) → as_room k ≡ Blocked → k ≡ 0
 none_seen zero e = refl
 none_seen (suc k) e = absurd (let z : ◌≡◌ {A = ℕ} 0 1 = cc in omega arith)
 

@@ -34,7 +34,7 @@ pub data Idle : Step → Type 0 where
   looks : Idle Look
   glances : Idle (LastLook true)
   closes : Idle CloseSet
-  shuts : {c : Bool} → Idle (ShutSet c)
+  shuts : Idle (ShutSet false)
 
 -- a record that a call left, or changed to begin or to end
 pub record Begun (side : Side) (p q : Party) : Type 0 where

@@ -20,7 +20,8 @@ use Rattle.layout.specs.Flags.{worth, not_full_on, reserved_from, bit_on, attach
 use Rattle.layout.specs.Header.{flags_at, counter_at, bell_at}
 use Rattle.layout.specs.Create.{first_flags, created}
 use Rattle.layout.proofs.SizeLaws.{capacity-room}
-use Rattle.layout.proofs.Headed.{Fitting, length-headed, headed-power, headed-slot, headed-flags, headed-counter, headed-bell}
+use Rattle.layout.specs.Whole.{Fitting}
+use Rattle.layout.proofs.Headed.{length-headed, headed-power, headed-slot, headed-flags, headed-counter, headed-bell}
 use Rattle.layout.proofs.Accepted.{tests, fits, first_small}
 use Rattle.rules.specs.Sides.{sleep_bell}
 use Rattle.rules.specs.Calls.{push_spec, pop_spec, close_spec, shut_spec, spurious_spec, timeout_spec}
@@ -96,7 +97,7 @@ module _ (r : List ℕ) (P S : ℕ) (on : Bool) (v : ℕ) (fresh : Fresh r P S o
   abbrev region : List ℕ
   region = created r P S on v
 
-  flags-are : le_at 4 region flags_at ≡ first_flags on
+  pub flags-are : le_at 4 region flags_at ≡ first_flags on
   unfolding created
   flags-are = headed-flags r (ring_bytes P S) P S (first_flags on) v made
 
