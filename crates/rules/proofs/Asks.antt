@@ -106,12 +106,12 @@ module _ (P S v : ℕ) (on heed : Bool) where
       by (inl e) = rw e go.left
       by (inr b) = omega (arith, asked-cost (party_in w side).step q.step (room_in P S v on side w.trace) (room_in P S v on (other side) w.trace) a b.from, go.left)
 
-  module _ (power-ok : power_ok P ≡ true) (Slot-ok : slot_ok S ≡ true) (counted : Stance → Bool) (count : Count counted) where
+  module _ (power-ok : power_ok P ≡ true) (slot-ok : slot_ok S ≡ true) (counted : Stance → Bool) (count : Count counted) where
     turned : (w : World) → Real P S v on w → (side mover : Side) (payload lent : List ℕ) (fault : Fault) → mover ≡ side → Big side w → Awake P S v on counted side w
         → (notes : List Note) (n : ℕ) → Stint P S v on heed side notes (counts_by counted w mover payload lent fault + n) w → Stint P S v on heed side notes n (turn_world w mover payload lent fault)
     turned w real side mover payload lent fault e big awake notes n go =
         subst (λ (m : Side). Stint P S v on heed side notes (counts_by counted w m payload lent fault + n) w → Stint P S v on heed side notes n (turn_world w m payload lent fault))
-        (sym e) (λ go. going-turned P S v on power-ok Slot-ok w real side payload lent fault heed counted count notes n big awake go) go
+        (sym e) (λ go. going-turned P S v on power-ok slot-ok w real side payload lent fault heed counted count notes n big awake go) go
 
     -- a begin is no turn
     no-tick : (notes : List Note) (n : ℕ) (side : Side) (w : World) → Stint P S v on heed side notes (0 + n) w → Stint P S v on heed side notes n w
@@ -144,7 +144,7 @@ module _ (P S v : ℕ) (on heed : Bool) where
       going-run [] w t m real y notes n go = no-tick notes n side w go
       going-run (h ∷ hs) w t m real y notes n go =
           let e : tick_by counted h w + ticks_by counted hs (happens h w) + n ≡ tick_by counted h w + (ticks_by counted hs (happens h w) + n) = omega arith in
-          going-run hs (happens h w) t.1 m.1 (real-happens P S v on power-ok Slot-ok h w t.0 real) (on-it-goes h hs w t.0 real y) notes n
+          going-run hs (happens h w) t.1 m.1 (real-happens P S v on power-ok slot-ok h w t.0 real) (on-it-goes h hs w t.0 real y) notes n
           (going-happens side h w t.0 m.0 real (awake (h ∷ hs) w y go.quiet) notes (ticks_by counted hs (happens h w) + n) (subst (λ (u : ℕ). Stint P S v on heed side notes u w) e go))
 
 -- a run in two parts

@@ -159,7 +159,7 @@ module _ (P S v : ℕ) (on : Bool) where
   abbrev pub Awake : (counted : Stance → Bool) → Side → World → Type 0
   Awake counted side w = counted Sleeping ≡ true → 0 < room_in P S v on side w.trace → (party_in w side).step ≡ Asleep → ⊥
 
-  module _ (power-ok : power_ok P ≡ true) (Slot-ok : slot_ok S ≡ true) (w : World) (real : Real P S v on w) (side : Side) (payload lent : List ℕ) (fault : Fault) where
+  module _ (power-ok : power_ok P ≡ true) (slot-ok : slot_ok S ≡ true) (w : World) (real : Real P S v on w) (side : Side) (payload lent : List ℕ) (fault : Fault) where
     abbrev p : Party
     p = party_in w side
 
@@ -174,16 +174,16 @@ module _ (P S v : ℕ) (on : Bool) where
 
     module _ (g : takes w side payload lent fault ≡ true) where
       abbrev next : Step
-      next = next-step P S v on power-ok Slot-ok w real side payload lent fault g
+      next = next-step P S v on power-ok slot-ok w real side payload lent fault g
 
       abbrev after : World
-      after = after_turn P S v on power-ok Slot-ok w real side payload lent fault g
+      after = after_turn P S v on power-ok slot-ok w real side payload lent fault g
 
       abbrev value : ℕ
       value = value_of w.region p.own (next_spec p)
 
       pub none_after : room_in P S v on side t ≡ 0 → room_in P S v on side after.trace ≡ 0
-      none_after h = room_after P S v on power-ok Slot-ok w real side payload lent fault g ∙ ap (own_room s) h ∙ own-room-none s
+      none_after h = room_after P S v on power-ok slot-ok w real side payload lent fault g ∙ ap (own_room s) h ∙ own-room-none s
 
       pub stays-at-rest : s ≡ Rest → next ≡ Rest
       unfolding move_of
@@ -196,22 +196,22 @@ module _ (P S v : ℕ) (on : Bool) where
       pub fits-here : Big side w → s ≡ Copy → next ≡ Rest → ⊥
       unfolding move_of
       fits-here big e q =
-          no-spill P S v on power-ok Slot-ok w real side value (own_is P S v on power-ok Slot-ok w real side payload lent fault g) (counter-is P S v on power-ok Slot-ok w real side payload lent fault g)
-          (ap (value_of w.region p.own) (access-is P S v on power-ok Slot-ok w real side payload lent fault g ∙ ap (λ (u : Step). next_at u side p.counter) e))
+          no-spill P S v on power-ok slot-ok w real side value (own_is P S v on power-ok slot-ok w real side payload lent fault g) (counter-is P S v on power-ok slot-ok w real side payload lent fault g)
+          (ap (value_of w.region p.own) (access-is P S v on power-ok slot-ok w real side payload lent fault g ∙ ap (λ (u : Step). next_at u side p.counter) e))
           (subst (λ (u : Step). HasRoom (phase u) k) e (real.sides side).room) e big
           (sym (ap (λ (u : Step). step_after (move_at u p.own p.counter p.blocking p.length value (error_of fault)) u) e) ∙ q)
 
       going-taken : (heed : Bool) (counted : Stance → Bool) → Count counted → (notes : List Note) (n : ℕ) → Big side w → Awake counted side w → Stint heed side notes (pick (counted (stance_of s)) 1 0 + n) w → Stint heed side notes n after
       going-taken heed counted count notes n big awake go =
-          let leads = leads-here P S v on power-ok Slot-ok w real side payload lent fault g in
-          let me = mover-is P S v on power-ok Slot-ok w real side payload lent fault g in
-          let them = waiter-is P S v on power-ok Slot-ok w real side payload lent fault g in
-          let trail = trace-is P S v on power-ok Slot-ok w real side payload lent fault g in
+          let leads = leads-here P S v on power-ok slot-ok w real side payload lent fault g in
+          let me = mover-is P S v on power-ok slot-ok w real side payload lent fault g in
+          let them = waiter-is P S v on power-ok slot-ok w real side payload lent fault g in
+          let trail = trace-is P S v on power-ok slot-ok w real side payload lent fault g in
           let buffer = buffer_of w.region p.own (next_at s side p.counter) p.length lent in
           record {
-            quiet = λ h. ap (λ (q : Party). duty (other side) q.step) them ∙ duty-kept P S v on power-ok Slot-ok w real side payload lent fault g ∙ go.quiet h;
+            quiet = λ h. ap (λ (q : Party). duty (other side) q.step) them ∙ duty-kept P S v on power-ok slot-ok w real side payload lent fault g ∙ go.quiet h;
             calls = rw me (calls-on _ s next leads go.calls);
-            left = rw (me, room_after P S v on power-ok Slot-ok w real side payload lent fault g, other-room-after P S v on power-ok Slot-ok w real side payload lent fault g)
+            left = rw (me, room_after P S v on power-ok slot-ok w real side payload lent fault g, other-room-after P S v on power-ok slot-ok w real side payload lent fault g)
                 (turn-cost counted count _ k (λ l. l) n s next leads (kind s) go.calls stays-at-rest dreams-on awake (λ h. fits-here big) go.left);
             same = ap (notes_of (other side)) trail ∙ notes-kept p payload buffer t side p.counter s (next_at s side p.counter) (does side p.counter s) ∙ go.same;
           }
@@ -221,7 +221,7 @@ module _ (P S v : ℕ) (on : Bool) where
       where
         by : (b : Bool) → takes w side payload lent fault ≡ b → Stint heed side notes n (turn_world w side payload lent fault)
         by true g =
-            subst (Stint heed side notes n) (sym (turn-is-after P S v on power-ok Slot-ok w real side payload lent fault g))
+            subst (Stint heed side notes n) (sym (turn-is-after P S v on power-ok slot-ok w real side payload lent fault g))
             (going-taken g heed counted count notes n big awake (subst (λ (b : Bool). Stint heed side notes (pick (b && counted (stance_of s)) 1 0 + n) w) g go))
         by false g =
             let e : 0 + n ≡ n = omega arith in

@@ -171,15 +171,15 @@ module _ (P S v : ℕ) (on : Bool) where
       by (inl e) = inl (ap (λ (x : Party). x.step) e)
       by (inr b) = inr (b.from, b.idle)
 
-  module _ (power-ok : power_ok P ≡ true) (Slot-ok : slot_ok S ≡ true) (w : World) (real : Real P S v on w) (side : Side) where
-    joined : (spins : ℕ) → Stays (attaches side spins) side w (attach_world P S v on power-ok Slot-ok w real side spins)
+  module _ (power-ok : power_ok P ≡ true) (slot-ok : slot_ok S ≡ true) (w : World) (real : Real P S v on w) (side : Side) where
+    joined : (spins : ℕ) → Stays (attaches side spins) side w (attach_world P S v on power-ok slot-ok w real side spins)
     unfolding attach_leaves attach_reply
     joined spins = by (eqb (number (attach_answer w.region side spins)) 0) refl
       where
         empty : eqb (number (attach_answer w.region side spins)) 0 ≡ true → (party_in w side).step ≡ Rest
         empty e = ((real.sides side).seat.empty (sym (real.sides side).seat.attached-bit ∙ bit-clear w.region side spins e)).0
 
-        by : (b : Bool) → eqb (number (attach_answer w.region side spins)) 0 ≡ b → Stays (attaches side spins) side w (attach_world P S v on power-ok Slot-ok w real side spins)
+        by : (b : Bool) → eqb (number (attach_answer w.region side spins)) 0 ≡ b → Stays (attaches side spins) side w (attach_world P S v on power-ok slot-ok w real side spins)
         by false e = rw e record { trace = refl; other_step = refl; tick = λ c. refl; own-step = inl refl; asked = λ x. absurd x; stop = λ σ. refl; up = λ k e. e }
         by true e =
             rw e record {
@@ -188,58 +188,58 @@ module _ (P S v : ℕ) (on : Bool) where
               tick = λ c. refl;
               own-step = inl (ap (λ (x : Party). x.step) (seat-one side w.bench (attached w.region side spins)) ∙ sym (empty e));
               asked = λ x. absurd x;
-              stop = λ σ. ap (stop_at σ) (attach-flags P S v on power-ok Slot-ok w real side) ∙ stop-kept P S v on σ side (le_at 4 w.region flags_at) real.fixed.small;
-              up = λ k e. ap (bit_on (worth k)) (attach-flags P S v on power-ok Slot-ok w real side) ∙ mark-up (attach_mark side) (le_at 4 w.region flags_at) real.fixed.small k e;
+              stop = λ σ. ap (stop_at σ) (attach-flags P S v on power-ok slot-ok w real side) ∙ stop-kept P S v on σ side (le_at 4 w.region flags_at) real.fixed.small;
+              up = λ k e. ap (bit_on (worth k)) (attach-flags P S v on power-ok slot-ok w real side) ∙ mark-up (attach_mark side) (le_at 4 w.region flags_at) real.fixed.small k e;
             }
 
     module _ (payload lent : List ℕ) (fault : Fault) (h : Happening) (tick : (counted : Stance → Bool) → tick_by counted h w ≡ counts_by counted w side payload lent fault) (big : Wills side h w → Big side w)
         (fair : Fair side h w → takes w side payload lent fault ≡ true → FairTurn side side fault w) where
-      gone : (g : takes w side payload lent fault ≡ true) → Goes h side w (after_turn P S v on power-ok Slot-ok w real side payload lent fault g)
+      gone : (g : takes w side payload lent fault ≡ true) → Goes h side w (after_turn P S v on power-ok slot-ok w real side payload lent fault g)
       gone g =
           let p = party_in w side in
           let s = p.step in
-          let me = mover-is P S v on power-ok Slot-ok w real side payload lent fault g in
-          let them = waiter-is P S v on power-ok Slot-ok w real side payload lent fault g in
-          let trail = trace-is P S v on power-ok Slot-ok w real side payload lent fault g in
+          let me = mover-is P S v on power-ok slot-ok w real side payload lent fault g in
+          let them = waiter-is P S v on power-ok slot-ok w real side payload lent fault g in
+          let trail = trace-is P S v on power-ok slot-ok w real side payload lent fault g in
           let buffer = buffer_of w.region p.own (next_at s side p.counter) p.length lent in
           record {
-            sight = sight P S v on power-ok Slot-ok w real side payload lent fault g;
+            sight = sight P S v on power-ok slot-ok w real side payload lent fault g;
             room = refl;
             theirs = refl;
             whose = refl;
             ringing = refl;
             door = refl;
-            leads = rw me (leads-here P S v on power-ok Slot-ok w real side payload lent fault g);
+            leads = rw me (leads-here P S v on power-ok slot-ok w real side payload lent fault g);
             tick = λ c. tick c ∙ ap (λ (b : Bool). pick (b && c (stance_of s)) 1 0) g;
-            fits = λ x e q. fits-here P S v on power-ok Slot-ok w real side payload lent fault g (big x) e (rw me at q);
+            fits = λ x e q. fits-here P S v on power-ok slot-ok w real side payload lent fault g (big x) e (rw me at q);
             unheard = λ f e at b. unrung e (le_at 4 w.region (bell_at (sleep_bell side))) (rung_of side w.trace) (fair-own side fault w (fair f g) e at)
                 (subst (λ (u : Step). Since (phase u) (le_at 4 w.region (bell_at (sleep_bell side))) (rung_of side w.trace)) at (real.sides side).since) b;
             woken = rw them (roused (other side) (party_in w (other side)) (woke_of (next_spec p) (error_of fault))).step;
-            own-room = room_after P S v on power-ok Slot-ok w real side payload lent fault g;
-            other-room = other-room-after P S v on power-ok Slot-ok w real side payload lent fault g;
+            own-room = room_after P S v on power-ok slot-ok w real side payload lent fault g;
+            other-room = other-room-after P S v on power-ok slot-ok w real side payload lent fault g;
             own-count = λ left. rw trail (count-own p payload buffer w.trace side p.counter s (next_at s side p.counter) (does side p.counter s) left);
             other-count = ap (count_of (other side)) trail ∙ count_kept p payload buffer w.trace side p.counter s (next_at s side p.counter) (does side p.counter s);
             own-rung = λ u. ap (rung_of side) trail ∙ rung-own p payload buffer w.trace side s u;
             other-rung = ap (rung_of (other side)) trail ∙ rung-other p payload buffer w.trace side s;
-            flags = flags-same P S v on power-ok Slot-ok w real side payload lent fault g;
-            up = λ k e. ap (bit_on (worth k)) (flags-left P S v on power-ok Slot-ok w real side payload lent fault g) ∙ flag_up (next_at s side p.counter) (le_at 4 w.region flags_at) real.fixed.small k e;
+            flags = flags-same P S v on power-ok slot-ok w real side payload lent fault g;
+            up = λ k e. ap (bit_on (worth k)) (flags-left P S v on power-ok slot-ok w real side payload lent fault g) ∙ flag_up (next_at s side p.counter) (le_at 4 w.region flags_at) real.fixed.small k e;
           }
 
       turned : Deed h side w (turn_world w side payload lent fault)
       turned = by (takes w side payload lent fault) refl
         where
           by : (b : Bool) → takes w side payload lent fault ≡ b → Deed h side w (turn_world w side payload lent fault)
-          by true g = subst (Deed h side w) (sym (turn-is-after P S v on power-ok Slot-ok w real side payload lent fault g)) (goes (gone g))
+          by true g = subst (Deed h side w) (sym (turn-is-after P S v on power-ok slot-ok w real side payload lent fault g)) (goes (gone g))
           by false g =
               subst (Deed h side w) (sym (turn-refused w side payload lent fault g))
               (stays record { trace = refl; other_step = refl; tick = λ c. tick c ∙ ap (λ (b : Bool). pick (b && c (stance_of (party_in w side).step)) 1 0) g; own-step = inl refl; asked = λ x. stayed; stop = λ σ. refl; up = λ k e. e })
 
-  module _ (power-ok : power_ok P ≡ true) (Slot-ok : slot_ok S ≡ true) where
+  module _ (power-ok : power_ok P ≡ true) (slot-ok : slot_ok S ≡ true) where
     pub deed : (h : Happening) (w : World) → Typed h → Real P S v on w → Deed h (done_by h) w (happens h w)
     unfolding happens played played_leaves settled
-    deed (attaches side spins) w t real = stays (joined power-ok Slot-ok w real side spins)
-    deed (plays (Turn side) i o) w t real = turned power-ok Slot-ok w real side i o Fine (plays (Turn side) i o) (λ c. refl) (λ x. x.1) (λ f. f)
-    deed (plays (Failing side e) i o) w t real = turned power-ok Slot-ok w real side i o (Error e) (plays (Failing side e) i o) (λ c. refl) (λ x. x.1) (λ f. f)
+    deed (attaches side spins) w t real = stays (joined power-ok slot-ok w real side spins)
+    deed (plays (Turn side) i o) w t real = turned power-ok slot-ok w real side i o Fine (plays (Turn side) i o) (λ c. refl) (λ x. x.1) (λ f. f)
+    deed (plays (Failing side e) i o) w t real = turned power-ok slot-ok w real side i o (Error e) (plays (Failing side e) i o) (λ c. refl) (λ x. x.1) (λ f. f)
     deed (plays (Spurious side) i o) w t real = stays (called (plays (Spurious side) i o) w side (spurious_spec side (party_in w side)).party (λ c. refl) (spurious-changes side (party_in w side)) (λ x. spurious-asks side (party_in w side)))
     deed (plays (TimeOut side) i o) w t real = stays (called (plays (TimeOut side) i o) w side (timeout_spec side (party_in w side)).party (λ c. refl) (timeout-changes side (party_in w side)) (λ x. timeout-asks side (party_in w side)))
     deed (plays (Push b g l) i o) w t real = stays (called (plays (Push b g l) i o) w Sender (push_spec (party_in w Sender) b g l).party (λ c. refl) (push-changes (party_in w Sender) b g l t) (λ x. push-asks (party_in w Sender) b g l))
@@ -255,9 +255,9 @@ module _ (P S v : ℕ) (on : Bool) where
   count-deed h w u Recorder Sender (goes d) = omega (arith, d.other-count)
   count-deed h w u Recorder Recorder (goes d) = omega (arith, d.own-count 0, own-room-none (party_in w Recorder).step)
 
-  module _ (power-ok : power_ok P ≡ true) (Slot-ok : slot_ok S ≡ true) (side : Side) where
+  module _ (power-ok : power_ok P ≡ true) (slot-ok : slot_ok S ≡ true) (side : Side) where
     pub count-run : (hs : List Happening) (w : World) → AllTyped hs → Real P S v on w → count_of side w.trace ≤ count_of side (run hs w).trace
     unfolding run
     count-run [] w t real = omega arith
     count-run (h ∷ hs) w t real =
-        omega (arith, count-deed h w (happens h w) side (done_by h) (deed power-ok Slot-ok h w t.0 real), count-run hs (happens h w) t.1 (real-happens P S v on power-ok Slot-ok h w t.0 real))
+        omega (arith, count-deed h w (happens h w) side (done_by h) (deed power-ok slot-ok h w t.0 real), count-run hs (happens h w) t.1 (real-happens P S v on power-ok slot-ok h w t.0 real))

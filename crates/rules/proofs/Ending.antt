@@ -110,10 +110,10 @@ parted s k e = by s (next_at s Sender 0) (does Sender 0 s) e
     by s a waits e = refl
     by s a (wakes p b m) e = p.other-room k
 
-module _ (P S v : ℕ) (on : Bool) (power-ok : power_ok P ≡ true) (Slot-ok : slot_ok S ≡ true) where
+module _ (P S v : ℕ) (on : Bool) (power-ok : power_ok P ≡ true) (slot-ok : slot_ok S ≡ true) where
   -- a flag that is up stays up
   up-happens : (k : Mark) (h : Happening) (w : World) → Typed h → Real P S v on w → bit_on (worth k) (le_at 4 w.region flags_at) ≡ true → bit_on (worth k) (le_at 4 (happens h w).region flags_at) ≡ true
-  up-happens k h w t real e = by (deed P S v on power-ok Slot-ok h w t real)
+  up-happens k h w t real e = by (deed P S v on power-ok slot-ok h w t real)
     where
       by : Deed P S v on h (done_by h) w (happens h w) → bit_on (worth k) (le_at 4 (happens h w).region flags_at) ≡ true
       by (goes d) = d.up k e
@@ -131,7 +131,7 @@ module _ (P S v : ℕ) (on : Bool) (power-ok : power_ok P ≡ true) (Slot-ok : s
   module _ (side : Side) where
     -- four stretches: the other does not move; nor here, where a sleeper's turns count and the run is fair; it has closed; it does
     -- anything
-    alone : Stretch P S v on (last_looks side) 0 (no_more side) power-ok Slot-ok moves by-moves side (λ ms w. AllOwn side ms)
+    alone : Stretch P S v on (last_looks side) 0 (no_more side) power-ok slot-ok moves by-moves side (λ ms w. AllOwn side ms)
     alone =
         record {
           goes_on = λ h hs w t real y. y.1;
@@ -142,21 +142,21 @@ module _ (P S v : ℕ) (on : Bool) (power-ok : power_ok P ≡ true) (Slot-ok : s
     abbrev Heard : List Happening → World → Type 0
     Heard ms w = AllOwn side ms × ((duty (other side) (party_in w (other side)).step ≡ none) × (AllFair side ms w × Ready P S v on side w))
 
-    heard : Stretch P S v on (last_looks side) 0 (no_more side) power-ok Slot-ok calling by-calling side Heard
+    heard : Stretch P S v on (last_looks side) 0 (no_more side) power-ok slot-ok calling by-calling side Heard
     heard =
         record {
           goes_on = λ h hs w t real y. (
             y.0.1,
             (
-              quiet-deed h w (happens h w) side (subst (λ (m : Side). Deed P S v on h m w (happens h w)) (own-done side h y.0.0) (deed P S v on power-ok Slot-ok h w t real)) y.1.0,
-              (y.1.1.0.1, ready-happens P S v on power-ok Slot-ok side h w t y.1.1.0.0 real y.1.1.1),
+              quiet-deed h w (happens h w) side (subst (λ (m : Side). Deed P S v on h m w (happens h w)) (own-done side h y.0.0) (deed P S v on power-ok slot-ok h w t real)) y.1.0,
+              (y.1.1.0.1, ready-happens P S v on power-ok slot-ok side h w t y.1.1.0.0 real y.1.1.1),
             ),
           );
           rouses = λ hs w up y e asleep. dozes P S v on (rings (other side) on) side (other side) w y.1.0 asleep y.1.1.1 (stop-cause (room_in P S v on side w.trace) _ up);
           gives_none = λ h hs w real y e. absurd ((same-side (done_by h) side (own-done side h y.0.0)).1 e);
         }
 
-    closed : (l : ℕ) (few : l + 0 ≤ 1) → Stretch P S v on l 0 few power-ok Slot-ok moves by-moves side (λ ms w. closed_bit (other side) w ≡ true)
+    closed : (l : ℕ) (few : l + 0 ≤ 1) → Stretch P S v on l 0 few power-ok slot-ok moves by-moves side (λ ms w. closed_bit (other side) w ≡ true)
     closed l few =
         record {
           goes_on = λ h hs w t real y. up-happens (close_mark (other side)) h w t real y;
@@ -166,7 +166,7 @@ module _ (P S v : ℕ) (on : Bool) (power-ok : power_ok P ≡ true) (Slot-ok : s
               rw e (parted (party_in w (other side)).step k (seat.over (sym seat.closed-bit ∙ y)));
         }
 
-    anyhow : Stretch P S v on 0 1 none_left power-ok Slot-ok moves by-moves side (λ ms w. Unit)
+    anyhow : Stretch P S v on 0 1 none_left power-ok slot-ok moves by-moves side (λ ms w. Unit)
     anyhow = record { goes_on = λ h hs w t real y. tt; rouses = λ hs w up y e. absurd (let z : ◌≡◌ {A = ℕ} 0 1 = cc in omega arith); gives_none = λ h hs w real y e k. refl }
 
 module _ (r : List ℕ) (P S : ℕ) (on : Bool) (v : ℕ) (fresh : Fresh r P S on v) where
@@ -230,8 +230,8 @@ module _ (r : List ℕ) (P S : ℕ) (on : Bool) (v : ℕ) (fresh : Fresh r P S o
       power-ok : power_ok P ≡ true
       power-ok = power-fits r P S on v fresh
 
-      Slot-ok : slot_ok S ≡ true
-      Slot-ok = slot-fits r P S on v fresh
+      slot-ok : slot_ok S ≡ true
+      slot-ok = slot-fits r P S on v fresh
 
       last : (d : Bool) → down (w hs) ≡ d → last_at side (door_of side (le_at 4 (w hs).region flags_at)) ≡ pick d 0 (last_looks side)
       last d e = last-is side (le_at 4 (w hs).region flags_at) stop ∙ ap (λ (b : Bool). pick b 0 (last_looks side)) e
@@ -243,8 +243,8 @@ module _ (r : List ℕ) (P S : ℕ) (on : Bool) (v : ℕ) (fresh : Fresh r P S o
       by : (b : Bool) → closed_bit (other side) (w hs) ≡ b → (d : Bool) → down (w hs) ≡ d → (d || b) ≡ true → EndTurns b (pick d 0 (last_looks side)) (party_in (w hs) side).step n
           → (first : List Happening) × ((rest : List Happening) × ((ms ≡ first ++ rest) × ((turns_by moves side first (w hs) ≤ n) × ((party_in (w (hs ++ first)) side).step ≡ Rest))))
       by true e d q up left =
-          ends_by (pick d 0 (last_looks side)) 0 (few d) moves by-moves side (λ ms w. closed_bit (other side) w ≡ true) (closed P S v on power-ok Slot-ok side (pick d 0 (last_looks side)) (few d)) hs ms n t
+          ends_by (pick d 0 (last_looks side)) 0 (few d) moves by-moves side (λ ms w. closed_bit (other side) w ≡ true) (closed P S v on power-ok slot-ok side (pick d 0 (last_looks side)) (few d)) hs ms n t
           (record { up = stop; last = omega (arith, last d q) }) (left-closed (pick d 0 (last_looks side)) (few d) (party_in (w hs) side).step (room_in P S v on side (w hs).trace) n left) e long
       by false e true q up left =
-          ends_by 0 1 none_left moves by-moves side (λ ms w. Unit) (anyhow P S v on power-ok Slot-ok side) hs ms n t (record { up = stop; last = omega (arith, last true q) }) (left_down (party_in (w hs) side).step 1 n left) tt long
+          ends_by 0 1 none_left moves by-moves side (λ ms w. Unit) (anyhow P S v on power-ok slot-ok side) hs ms n t (record { up = stop; last = omega (arith, last true q) }) (left_down (party_in (w hs) side).step 1 n left) tt long
       by false e false q up left = absurd (let z : ◌≡◌ {A = ℕ} 0 1 = cc in omega arith)

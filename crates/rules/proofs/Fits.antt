@@ -26,7 +26,7 @@ use Rattle.rules.proofs.FitLaws.{fit_is, copy-by}
 use Rattle.rules.proofs.Copies.{head-is}
 use Rattle.rules.proofs.Real.{count_of, sizes, room_in, nth, blank, note_head, Real}
 
-module _ (P S v : ℕ) (on : Bool) (power-ok : power_ok P ≡ true) (Slot-ok : slot_ok S ≡ true) (w : World) (real : Real P S v on w) where
+module _ (P S v : ℕ) (on : Bool) (power-ok : power_ok P ≡ true) (slot-ok : slot_ok S ≡ true) (w : World) (real : Real P S v on w) where
   abbrev t : Trace
   t = w.trace
 
@@ -43,7 +43,7 @@ module _ (P S v : ℕ) (on : Bool) (power-ok : power_ok P ≡ true) (Slot-ok : s
   good-fit own c named o e h big =
       let n : Note = nth t.sent (length t.delivered) in
       let holds = real.queue.ring (length t.delivered) (omega arith) (omega arith) in
-      rw (head-is P S v on power-ok Slot-ok w.region real.fixed t own c o e n holds, o)
+      rw (head-is P S v on power-ok slot-ok w.region real.fixed t own c o e n holds, o)
       (fit_is (note_head n) (payload_capacity S) named holds.body-fits (omega arith) refl (big n _ (first-waits h)))
 
   pub no-spill : (σ : Side) (val : ℕ) → (party_in w σ).own ≡ sizes P S v on σ (party_in w σ).own.spins → (party_in w σ).counter ≡ plus 64 v (count_of σ t)

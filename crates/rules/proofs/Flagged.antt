@@ -227,7 +227,7 @@ plain_step F p true false true n q h f = h
 plain_step F p true false false true q h f = h
 plain_step F p true false false false q h f = f
 
-module _ (P S v : ℕ) (on : Bool) (power-ok : power_ok P ≡ true) (Slot-ok : slot_ok S ≡ true) (m : Mark) (parts : (side : Side) → same_mark m (attach_mark side) ≡ false) where
+module _ (P S v : ℕ) (on : Bool) (power-ok : power_ok P ≡ true) (slot-ok : slot_ok S ≡ true) (m : Mark) (parts : (side : Side) → same_mark m (attach_mark side) ≡ false) where
   flagged-turn : (w : World) → Real P S v on w → (b : Bool) → Flagged m b w → (side : Side) (payload lent : List ℕ) (fault : Fault) → Flagged m b (turn_world w side payload lent fault)
   flagged-turn w real b y side payload lent fault = by (takes w side payload lent fault) refl
     where
@@ -236,13 +236,13 @@ module _ (P S v : ℕ) (on : Bool) (power-ok : power_ok P ≡ true) (Slot-ok : s
       by true g =
           let p = party_in w side in
           let q = party_in w (other side) in
-          subst (Flagged m b) (sym (turn-is-after P S v on power-ok Slot-ok w real side payload lent fault g))
+          subst (Flagged m b) (sym (turn-is-after P S v on power-ok slot-ok w real side payload lent fault g))
           (record {
             bit = λ e. either y.bit (y.step side)
-                (bit-by m side p.counter p.step _ (le_at 4 w.region flags_at) real.fixed.small (does side p.counter p.step) (sym (ap (bit_on (worth m)) (flags-left P S v on power-ok Slot-ok w real side payload lent fault g)) ∙ e));
-            step = both-sides side (λ τ. will_set m τ (party_in (after_turn P S v on power-ok Slot-ok w real side payload lent fault g) τ).step ≡ true → b ≡ true)
-                (rw (mover-is P S v on power-ok Slot-ok w real side payload lent fault g) (λ e. no (sym (sets-on m side _ _ _ (leads-here P S v on power-ok Slot-ok w real side payload lent fault g)) ∙ e)))
-                (rw (waiter-is P S v on power-ok Slot-ok w real side payload lent fault g)
+                (bit-by m side p.counter p.step _ (le_at 4 w.region flags_at) real.fixed.small (does side p.counter p.step) (sym (ap (bit_on (worth m)) (flags-left P S v on power-ok slot-ok w real side payload lent fault g)) ∙ e));
+            step = both-sides side (λ τ. will_set m τ (party_in (after_turn P S v on power-ok slot-ok w real side payload lent fault g) τ).step ≡ true → b ≡ true)
+                (rw (mover-is P S v on power-ok slot-ok w real side payload lent fault g) (λ e. no (sym (sets-on m side _ _ _ (leads-here P S v on power-ok slot-ok w real side payload lent fault g)) ∙ e)))
+                (rw (waiter-is P S v on power-ok slot-ok w real side payload lent fault g)
                 (roused-elim (roused (other side) q (woke_of (next_spec p) (error_of fault))) (λ u. will_set m (other side) u ≡ true → b ≡ true) (y.step (other side)) (λ z e. no e)));
           })
 
@@ -257,7 +257,7 @@ module _ (P S v : ℕ) (on : Bool) (power-ok : power_ok P ≡ true) (Slot-ok : s
       by false e = rw e (record { bit = y.bit; step = y.step })
       by true e =
           rw e (record {
-            bit = λ q. kept (sym (ap (bit_on (worth m)) (attach-flags P S v on power-ok Slot-ok w real side)) ∙ q);
+            bit = λ q. kept (sym (ap (bit_on (worth m)) (attach-flags P S v on power-ok slot-ok w real side)) ∙ q);
             step = both-sides side (λ τ. will_set m τ (party_of (seat w.bench side (attached w.region side n)) τ).step ≡ true → b ≡ true)
                 (rw (seat-one side w.bench (attached w.region side n)) (λ q. no q)) (rw (seat-two side w.bench (attached w.region side n)) (y.step (other side)));
           })
@@ -299,7 +299,7 @@ module _ (P S v : ℕ) (on : Bool) (power-ok : power_ok P ≡ true) (Slot-ok : s
   flagged-run [] w t real b y = rw (or-none b) y
   flagged-run (h ∷ hs) w t real b y =
       subst (λ (x : Bool). Flagged m x (run hs (happens h w))) (or_assoc b (asks_for m h w) (ever_asks m hs (happens h w)))
-      (flagged-run hs (happens h w) t.1 (real-happens P S v on power-ok Slot-ok h w t.0 real) (b || asks_for m h w) (flagged-happens h w real b y))
+      (flagged-run hs (happens h w) t.1 (real-happens P S v on power-ok slot-ok h w t.0 real) (b || asks_for m h w) (flagged-happens h w real b y))
 
 module _ (r : List ℕ) (P S : ℕ) (on : Bool) (v : ℕ) (fresh : Fresh r P S on v) where
   flagged-start : (m : Mark) → ((on : Bool) → bit_on (worth m) (first_flags on) ≡ false) → Flagged m false (opened (created r P S on v))

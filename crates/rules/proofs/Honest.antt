@@ -113,12 +113,12 @@ idle-honest s idle-shuts = refl
 abbrev Honest : World → Type 0
 Honest w = (side : Side) → spoilt (party_in w side).step ≡ false
 
-module _ (P S v : ℕ) (on : Bool) (power-ok : power_ok P ≡ true) (Slot-ok : slot_ok S ≡ true) where
+module _ (P S v : ℕ) (on : Bool) (power-ok : power_ok P ≡ true) (slot-ok : slot_ok S ≡ true) where
   honest-happens : (h : Happening) (w : World) → Typed h → Real P S v on w → Honest w → Honest (happens h w)
   unfolding attach_reply
-  honest-happens h w y real o = happens-by P S v on power-ok Slot-ok Honest h w y real attach turn call
+  honest-happens h w y real o = happens-by P S v on power-ok slot-ok Honest h w y real attach turn call
     where
-      attach : (side : Side) (n : ℕ) → Honest (attach_world P S v on power-ok Slot-ok w real side n)
+      attach : (side : Side) (n : ℕ) → Honest (attach_world P S v on power-ok slot-ok w real side n)
       attach side n = by (eqb (number (attach_answer w.region side n)) 0) refl
         where
           seats : (side τ : Side) → spoilt (party_of (seat w.bench side (attached w.region side n)) τ).step ≡ false
@@ -127,7 +127,7 @@ module _ (P S v : ℕ) (on : Bool) (power-ok : power_ok P ≡ true) (Slot-ok : s
           seats Recorder Sender = o Sender
           seats Recorder Recorder = refl
 
-          by : (b : Bool) → eqb (number (attach_answer w.region side n)) 0 ≡ b → Honest (attach_world P S v on power-ok Slot-ok w real side n)
+          by : (b : Bool) → eqb (number (attach_answer w.region side n)) 0 ≡ b → Honest (attach_world P S v on power-ok slot-ok w real side n)
           by true e = rw e (λ τ. seats side τ)
           by false e = rw e o
 
@@ -138,10 +138,10 @@ module _ (P S v : ℕ) (on : Bool) (power-ok : power_ok P ≡ true) (Slot-ok : s
           by false g = subst Honest (sym (turn-refused w side payload lent fault g)) o
           by true g =
               let q = party_in w (other side) in
-              subst Honest (sym (turn-is-after P S v on power-ok Slot-ok w real side payload lent fault g))
-              (both-sides side (λ τ. spoilt (party_in (after_turn P S v on power-ok Slot-ok w real side payload lent fault g) τ).step ≡ false)
-              (rw (mover-is P S v on power-ok Slot-ok w real side payload lent fault g) (honest-on _ _ _ (leads-here P S v on power-ok Slot-ok w real side payload lent fault g) (o side)))
-              (rw (waiter-is P S v on power-ok Slot-ok w real side payload lent fault g)
+              subst Honest (sym (turn-is-after P S v on power-ok slot-ok w real side payload lent fault g))
+              (both-sides side (λ τ. spoilt (party_in (after_turn P S v on power-ok slot-ok w real side payload lent fault g) τ).step ≡ false)
+              (rw (mover-is P S v on power-ok slot-ok w real side payload lent fault g) (honest-on _ _ _ (leads-here P S v on power-ok slot-ok w real side payload lent fault g) (o side)))
+              (rw (waiter-is P S v on power-ok slot-ok w real side payload lent fault g)
               (roused-elim (roused (other side) q (woke_of (next_spec (party_in w side)) (error_of fault))) (λ u. spoilt u ≡ false) (o (other side)) (λ e. refl))))
 
       call : (side : Side) (q : Party) → Changed side (party_in w side) q → Honest (seated P S v on w side q)
@@ -156,7 +156,7 @@ module _ (P S v : ℕ) (on : Bool) (power-ok : power_ok P ≡ true) (Slot-ok : s
   honest-run : (hs : List Happening) (w : World) → AllTyped hs → Real P S v on w → Honest w → Honest (run hs w)
   unfolding run
   honest-run [] w t real o = o
-  honest-run (h ∷ hs) w t real o = honest-run hs (happens h w) t.1 (real-happens P S v on power-ok Slot-ok h w t.0 real) (honest-happens h w t.0 real o)
+  honest-run (h ∷ hs) w t real o = honest-run hs (happens h w) t.1 (real-happens P S v on power-ok slot-ok h w t.0 real) (honest-happens h w t.0 real o)
 
 module _ (r : List ℕ) (P S : ℕ) (on : Bool) (v : ℕ) (fresh : Fresh r P S on v) where
   start : Honest (opened (created r P S on v))

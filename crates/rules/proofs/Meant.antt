@@ -48,7 +48,7 @@ use Rattle.rules.specs.Premises.{AllTyped}
 use Rattle.rules.specs.Stretch.{notes_of}
 use Rattle.rules.specs.Claims.{Fresh, reached}
 use Rattle.rules.specs.Meaning.{call_of}
-use Rattle.rules.specs.Asked.{Call, no_call, copy_of as copy_of, parting, begun, lent_of, at_copy, turn_call, call_after, call_by, AsNamed}
+use Rattle.rules.specs.Asked.{Call, no_call, copy_of as copy_of, superseded, begun, lent_of, at_copy, turn_call, call_after, call_by, AsNamed}
 use Rattle.rules.proofs.Views.{acting, is-copy, sleeping-step, view, View, at_rest, at_copy as copying-now, asleep, elsewhere}
 use Rattle.rules.proofs.Does.{Does, does, nothing, looks, flags, reads as epoch, writes, takes as take-slot, stores as store, raises as ring, closes as close, shuts as shut, waits as wait, wakes as wake}
 use Rattle.rules.proofs.Leads.{Sight, asks, Leads, idles, finds, blocks, gives_up, copies, spills, tells, stores, owes, passes, raises, wakes, enters, stops, finds-spin, spins, reads, finds-again, stays, enters-again, stops-again, sleeps as falls-asleep, returns, ends, dreams, glances, glances-again, times-out, finds-last, finds-none, closes, closes-alone, close-raises, close-wakes, shuts, shut-raises, shut-wakes, shut-raises-again, shut-wakes-again}
@@ -255,7 +255,7 @@ pub same-keeps : (c : Call) (p q : Party) → q.own ≡ p.own → q.blocking ≡
 same-keeps c p q o b t l y =
     record { blocking = b ∙ y.blocking; tag = t ∙ y.tag; length = l ∙ y.length; fresh = λ e. y.fresh (ap (λ (x : Own). x.attached) (sym o) ∙ e) }
 
-module _ (P S v : ℕ) (on : Bool) (power-ok : power_ok P ≡ true) (Slot-ok : slot_ok S ≡ true) where
+module _ (P S v : ℕ) (on : Bool) (power-ok : power_ok P ≡ true) (slot-ok : slot_ok S ≡ true) where
   module _ (w : World) (real : Real P S v on w) (side : Side) (payload lent : List ℕ) (fault : Fault) (g : takes w side payload lent fault ≡ true) where
     abbrev p : Party
     p = party_in w side
@@ -270,7 +270,7 @@ module _ (P S v : ℕ) (on : Bool) (power-ok : power_ok P ≡ true) (Slot-ok : s
     t = w.trace
 
     abbrev next : Step
-    next = next-step P S v on power-ok Slot-ok w real side payload lent fault g
+    next = next-step P S v on power-ok slot-ok w real side payload lent fault g
 
     abbrev a : Access
     a = next_at s side p.counter
@@ -279,7 +279,7 @@ module _ (P S v : ℕ) (on : Bool) (power-ok : power_ok P ≡ true) (Slot-ok : s
     buffer = buffer_of w.region p.own a p.length lent
 
     abbrev after : World
-    after = after_turn P S v on power-ok Slot-ok w real side payload lent fault g
+    after = after_turn P S v on power-ok slot-ok w real side payload lent fault g
 
     call-mine : (c : Call) → turn_call side w side payload lent fault c ≡ pick (at_copy (stance_of s)) (copy_of (lent_of side payload lent) c) c
     call-mine c = rw (same_true side, g)
@@ -292,23 +292,23 @@ module _ (P S v : ℕ) (on : Bool) (power-ok : power_ok P ≡ true) (Slot-ok : s
     own-after c y = by (is-copy s)
       where
         by : (s ≡ Copy) ⊎ (s ≡ Copy → ⊥) → Under side (phase next) (pick (at_copy (stance_of s)) (copy_of (lent_of side payload lent) c) c) (traced a p payload buffer t)
-        by (inr n) = rw (not-copy s n) (own-under p payload buffer t c side _ s next refl n (leads-here P S v on power-ok Slot-ok w real side payload lent fault g) y.under)
+        by (inr n) = rw (not-copy s n) (own-under p payload buffer t c side _ s next refl n (leads-here P S v on power-ok slot-ok w real side payload lent fault g) y.under)
         by (inl e) =
             let val = value_of w.region p.own (next_spec p) in
             subst (λ (u : Step). Under side (phase (step_after (move_at u p.own p.counter p.blocking p.length val (error_of fault)) u)) (pick (at_copy (stance_of u)) (copy_of (lent_of side payload lent) c) c) (traced (next_at u side p.counter) p payload buffer t))
             (sym e)
             (subst (λ (m : Move). Under side (phase (step_after m Copy)) (copy_of (lent_of side payload lent) c) (traced (slot_access side p.counter) p payload buffer t))
-            (sym (copy-by p.own p.length val side (ap (λ (o : Own). o.side) (own_is P S v on power-ok Slot-ok w real side payload lent fault g))))
+            (sym (copy-by p.own p.length val side (ap (λ (o : Own). o.side) (own_is P S v on power-ok slot-ok w real side payload lent fault g))))
             (copy-under p payload buffer t c side lent p.counter (fit_of (head_of val) (payload_capacity p.own.slot) p.length) (head_of val).length (head_of val).tag y.keeps.tag
             (subst (λ (u : Step). Under side (phase u) c t) e y.under)))
 
     mine-after : (c : Call) → Meant side c w → Meant side (turn_call side w side payload lent fault c) after
     mine-after c y =
-        let me = mover-is P S v on power-ok Slot-ok w real side payload lent fault g in
+        let me = mover-is P S v on power-ok slot-ok w real side payload lent fault g in
         rw (call-mine c)
         (record {
           keeps = rw me (copy-keeps c (at_copy (stance_of s)) (lent_of side payload lent) (moved p s next) (same-keeps c p (moved p s next) refl refl refl refl y.keeps));
-          under = rw (me, trace-is P S v on power-ok Slot-ok w real side payload lent fault g) (own-after c y);
+          under = rw (me, trace-is P S v on power-ok slot-ok w real side payload lent fault g) (own-after c y);
         })
 
     abbrev woken : Party
@@ -328,14 +328,14 @@ module _ (P S v : ℕ) (on : Bool) (power-ok : power_ok P ≡ true) (Slot-ok : s
 
     theirs-after : (c : Call) → Meant (other side) c w → Meant (other side) (turn_call (other side) w side payload lent fault c) after
     theirs-after c y =
-        let them = waiter-is P S v on power-ok Slot-ok w real side payload lent fault g in
+        let them = waiter-is P S v on power-ok slot-ok w real side payload lent fault g in
         let o = roused (other side) q (woke_of (next_spec p) (error_of fault)) in
         let m = woken-same (woke_of (next_spec p) (error_of fault)) in
         let kept = under-kept (other side) (phase q.step) c t (traced a p payload buffer t) (notes-kept p payload buffer t side p.counter s a (does side p.counter s)) (λ e. sender-hand side e p.counter s) y.under in
         rw (call-theirs c)
         (record {
           keeps = rw them (same-keeps c q woken o.own o.blocking m.0 m.1 y.keeps);
-          under = rw (them, trace-is P S v on power-ok Slot-ok w real side payload lent fault g)
+          under = rw (them, trace-is P S v on power-ok slot-ok w real side payload lent fault g)
               (roused-elim o (λ u. Under (other side) (phase u) c (traced a p payload buffer t)) kept (λ e. subst (λ (u : Step). Under (other side) (phase u) c (traced a p payload buffer t)) e kept));
         })
 
@@ -349,14 +349,14 @@ module _ (P S v : ℕ) (on : Bool) (power-ok : power_ok P ≡ true) (Slot-ok : s
           none true = refl
           none false = refl
 
-      taken : (σ side : Side) → (g : takes w side payload lent fault ≡ true) → Meant σ c w → Meant σ (turn_call σ w side payload lent fault c) (after_turn P S v on power-ok Slot-ok w real side payload lent fault g)
+      taken : (σ side : Side) → (g : takes w side payload lent fault ≡ true) → Meant σ c w → Meant σ (turn_call σ w side payload lent fault c) (after_turn P S v on power-ok slot-ok w real side payload lent fault g)
       taken Sender Sender g y = mine-after w real Sender payload lent fault g c y
       taken Recorder Sender g y = theirs-after w real Sender payload lent fault g c y
       taken Sender Recorder g y = theirs-after w real Recorder payload lent fault g c y
       taken Recorder Recorder g y = mine-after w real Recorder payload lent fault g c y
 
       by : (b : Bool) → takes w side payload lent fault ≡ b → Meant σ (turn_call σ w side payload lent fault c) (turn_world w side payload lent fault)
-      by true g = subst (Meant σ (turn_call σ w side payload lent fault c)) (sym (turn-is-after P S v on power-ok Slot-ok w real side payload lent fault g)) (taken σ side g y)
+      by true g = subst (Meant σ (turn_call σ w side payload lent fault c)) (sym (turn-is-after P S v on power-ok slot-ok w real side payload lent fault g)) (taken σ side g y)
       by false g = rw (off (takes w side payload lent fault) (at_copy (stance_of (party_in w side).step)) g) (subst (Meant σ c) (sym (turn-refused w side payload lent fault g)) y)
 
 -- a begin changes the record and the call together, or neither
@@ -378,7 +378,7 @@ unfolding ready sound
 never side p e f = absurd (let h = sym (and_left p.own.attached _ (and_left (sound side p) _ e)) ∙ f in let z : ◌≡◌ {A = ℕ} 0 1 = cc in omega arith)
 
 -- a close or a shutdown that is begun
-parted : (p : Party) (s : Step) (c : Call) → Keeps c p → Keeps (parting c) (at s p)
+parted : (p : Party) (s : Step) (c : Call) → Keeps c p → Keeps (superseded c) (at s p)
 parted p s c y = record { blocking = y.blocking; tag = y.tag; length = y.length; fresh = y.fresh }
 
 abbrev Holds : Side → Trace → Call → Party → Type 0
@@ -389,7 +389,7 @@ risen : (side : Side) (t : Trace) (c : Call) (p : Party) (s : Step) → Under si
 risen side t c p s e h a =
     (same-keeps c p (at s p) refl refl refl refl h.0, rw e (subst (λ (u : Step). Under side (phase u) c t) (sleeping-step p.step a) h.1))
 
-module _ (P S v : ℕ) (on : Bool) (power-ok : power_ok P ≡ true) (Slot-ok : slot_ok S ≡ true) where
+module _ (P S v : ℕ) (on : Bool) (power-ok : power_ok P ≡ true) (slot-ok : slot_ok S ≡ true) where
   meant-attach : (σ side : Side) (count : ℕ) (w : World) → Real P S v on w → (c : Call) → Meant σ c w → Meant σ c (happens (attaches side count) w)
   unfolding happens attach_reply
   meant-attach σ side count w real c y = by (eqb (number (attach_answer w.region side count)) 0) refl
@@ -415,8 +415,8 @@ module _ (P S v : ℕ) (on : Bool) (power-ok : power_ok P ≡ true) (Slot-ok : s
   meant-happens : (σ : Side) (h : Happening) (w : World) → Real P S v on w → (c : Call) → Meant σ c w → Meant σ (call_after σ h w c) (happens h w)
   unfolding happens played played_leaves settled push_spec pop_spec close_spec shut_spec spurious_spec timeout_spec
   meant-happens σ (attaches side count) w real c y = meant-attach σ side count w real c y
-  meant-happens σ (plays (Turn side) i o) w real c y = meant-turn P S v on power-ok Slot-ok σ side w real i o Fine c y
-  meant-happens σ (plays (Failing side e) i o) w real c y = meant-turn P S v on power-ok Slot-ok σ side w real i o (Error e) c y
+  meant-happens σ (plays (Turn side) i o) w real c y = meant-turn P S v on power-ok slot-ok σ side w real i o Fine c y
+  meant-happens σ (plays (Failing side e) i o) w real c y = meant-turn P S v on power-ok slot-ok σ side w real i o (Error e) c y
   meant-happens Sender (plays (Spurious Sender) i o) w real c y =
       let p = w.bench.sender in
       let h = roused-keeps (Holds Sender w.trace c) p (sound Sender p) (is_sleeping (stance_of p.step)) (reply (at Look p) GoesOn) (y.keeps, y.under) (risen Sender w.trace c p Look refl (y.keeps, y.under)) in
@@ -453,21 +453,21 @@ module _ (P S v : ℕ) (on : Bool) (power-ok : power_ok P ≡ true) (Slot-ok : s
   meant-happens Sender (plays (Pop b l) i o) w real c y = record { keeps = y.keeps; under = y.under }
   meant-happens Sender (plays (Close Sender) i o) w real c y =
       let p = w.bench.sender in
-      let h = begun-keeps (Holds Sender w.trace) p (ready Sender p) p.closed false false (at CloseSet p) c (parting c) (y.keeps, y.under) (λ e. (parted p _ c y.keeps, refl)) in
+      let h = begun-keeps (Holds Sender w.trace) p (ready Sender p) p.closed false false (at CloseSet p) c (superseded c) (y.keeps, y.under) (λ e. (parted p _ c y.keeps, refl)) in
       record { keeps = h.0; under = h.1 }
   meant-happens Recorder (plays (Close Recorder) i o) w real c y =
       let p = w.bench.recorder in
-      let h = begun-keeps (Holds Recorder w.trace) p (ready Recorder p) p.closed false false (at CloseSet p) c (parting c) (y.keeps, y.under) (λ e. (parted p _ c y.keeps, refl)) in
+      let h = begun-keeps (Holds Recorder w.trace) p (ready Recorder p) p.closed false false (at CloseSet p) c (superseded c) (y.keeps, y.under) (λ e. (parted p _ c y.keeps, refl)) in
       record { keeps = h.0; under = h.1 }
   meant-happens Recorder (plays (Close Sender) i o) w real c y = record { keeps = y.keeps; under = y.under }
   meant-happens Sender (plays (Close Recorder) i o) w real c y = record { keeps = y.keeps; under = y.under }
   meant-happens Sender (plays (Shutdown Sender) i o) w real c y =
       let p = w.bench.sender in
-      let h = begun-keeps (Holds Sender w.trace) p (ready Sender p) false false false (at (ShutSet false) p) c (parting c) (y.keeps, y.under) (λ e. (parted p _ c y.keeps, refl)) in
+      let h = begun-keeps (Holds Sender w.trace) p (ready Sender p) false false false (at (ShutSet false) p) c (superseded c) (y.keeps, y.under) (λ e. (parted p _ c y.keeps, refl)) in
       record { keeps = h.0; under = h.1 }
   meant-happens Recorder (plays (Shutdown Recorder) i o) w real c y =
       let p = w.bench.recorder in
-      let h = begun-keeps (Holds Recorder w.trace) p (ready Recorder p) false false false (at (ShutSet false) p) c (parting c) (y.keeps, y.under) (λ e. (parted p _ c y.keeps, refl)) in
+      let h = begun-keeps (Holds Recorder w.trace) p (ready Recorder p) false false false (at (ShutSet false) p) c (superseded c) (y.keeps, y.under) (λ e. (parted p _ c y.keeps, refl)) in
       record { keeps = h.0; under = h.1 }
   meant-happens Recorder (plays (Shutdown Sender) i o) w real c y = record { keeps = y.keeps; under = y.under }
   meant-happens Sender (plays (Shutdown Recorder) i o) w real c y = record { keeps = y.keeps; under = y.under }
@@ -475,7 +475,7 @@ module _ (P S v : ℕ) (on : Bool) (power-ok : power_ok P ≡ true) (Slot-ok : s
   pub meant-run : (σ : Side) (hs : List Happening) (w : World) → AllTyped hs → Real P S v on w → (c : Call) → Meant σ c w → Meant σ (call_by σ hs w c) (run hs w)
   unfolding run
   meant-run σ [] w t real c y = y
-  meant-run σ (h ∷ hs) w t real c y = meant-run σ hs (happens h w) t.1 (real-happens P S v on power-ok Slot-ok h w t.0 real) (call_after σ h w c) (meant-happens σ h w real c y)
+  meant-run σ (h ∷ hs) w t real c y = meant-run σ hs (happens h w) t.1 (real-happens P S v on power-ok slot-ok h w t.0 real) (call_after σ h w c) (meant-happens σ h w real c y)
 
 module _ (r : List ℕ) (P S : ℕ) (on : Bool) (v : ℕ) (fresh : Fresh r P S on v) where
   meant-start : (σ : Side) → Meant σ no_call (opened (created r P S on v))

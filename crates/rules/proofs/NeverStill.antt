@@ -88,11 +88,11 @@ module _ (P S v : ℕ) (on : Bool) where
     few-deed Recorder Sender d y = few-other Sender d y
     few-deed Recorder Recorder d y = few-own Recorder d y
 
-  few-run : (power-ok : power_ok P ≡ true) (Slot-ok : slot_ok S ≡ true) (side : Side) (hs : List Happening) (w : World) → AllTyped hs → Real P S v on w → Few side (other side) w → Few side (other side) (run hs w)
+  few-run : (power-ok : power_ok P ≡ true) (slot-ok : slot_ok S ≡ true) (side : Side) (hs : List Happening) (w : World) → AllTyped hs → Real P S v on w → Few side (other side) w → Few side (other side) (run hs w)
   unfolding run
-  few-run power-ok Slot-ok side [] w t real y = y
-  few-run power-ok Slot-ok side (h ∷ hs) w t real y =
-      few-run power-ok Slot-ok side hs (happens h w) t.1 (real-happens P S v on power-ok Slot-ok h w t.0 real) (few-deed h w (happens h w) side (done_by h) (deed P S v on power-ok Slot-ok h w t.0 real) y)
+  few-run power-ok slot-ok side [] w t real y = y
+  few-run power-ok slot-ok side (h ∷ hs) w t real y =
+      few-run power-ok slot-ok side hs (happens h w) t.1 (real-happens P S v on power-ok slot-ok h w t.0 real) (few-deed h w (happens h w) side (done_by h) (deed P S v on power-ok slot-ok h w t.0 real) y)
 
 -- one that owes the other something in a push or a pop has just stored, or found it blocked: it presses on itself
 pub due-calls : (τ : Side) (s : Step) (k n : ℕ) → Due true (duty τ s) k → Calls (phase s) → (Calling s → k ≤ 1) → (k ≤ 1) × Bright (phase s) n
@@ -199,13 +199,13 @@ module _ (r : List ℕ) (P S : ℕ) (on : Bool) (v : ℕ) (fresh : Fresh r P S o
   pressing-on side hs t c p ms u f will long =
       let w = reached r P S on v hs in
       let power-ok = power-fits r P S on v fresh in
-      let Slot-ok = slot-fits r P S on v fresh in
+      let slot-ok = slot-fits r P S on v fresh in
       let goal = count_of side w.trace + 1 in
       let start : Strides P S v on calling by-calling side goal (turns_by calling side ms w + 0) w =
       record { left = 1; reaches = omega arith; fits = omega (arith, p.0); calls = in-call (party_in w side).step c; soon = omega (arith, stores-most (party_in w side).step 1, long); bright = λ e l. p.1 } in
-      let end = strides-run P S v on calling by-calling power-ok Slot-ok side goal ms w u will (λ e. f) (real-reached r P S on v fresh hs t) 0 start in
+      let end = strides-run P S v on calling by-calling power-ok slot-ok side goal ms w u will (λ e. f) (real-reached r P S on v fresh hs t) 0 start in
       let last = subst (Strides P S v on calling by-calling side goal 0) (sym (run-parts hs ms (opened (created r P S on v)))) end in
-      rw (count-is side w.trace, count-is side (reached r P S on v (hs ++ ms)).trace) (omega (arith, strides-end P S v on calling by-calling power-ok Slot-ok side goal (reached r P S on v (hs ++ ms)) last))
+      rw (count-is side w.trace, count-is side (reached r P S on v (hs ++ ms)).trace) (omega (arith, strides-end P S v on calling by-calling power-ok slot-ok side goal (reached r P S on v (hs ++ ms)) last))
 
   pub few-reached : (hs : List Happening) → AllTyped hs → (side : Side) → Few P S v on side (other side) (reached r P S on v hs)
   few-reached hs t side = few-run P S v on (power-fits r P S on v fresh) (slot-fits r P S on v fresh) side hs (opened (created r P S on v)) t (real-start r P S on v fresh) (by side)

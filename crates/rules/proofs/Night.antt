@@ -485,7 +485,7 @@ module _ (P S v : ℕ) (on : Bool) (goal : ℕ) where
   calls-deed h w u Recorder Sender d x c = calls-other h w u Sender d c
   calls-deed h w u Recorder Recorder d x c = calls-own h w u Recorder d (x refl) c
 
-  module _ (power-ok : power_ok P ≡ true) (Slot-ok : slot_ok S ≡ true) (cap : 2 ≤ capacity P) where
+  module _ (power-ok : power_ok P ≡ true) (slot-ok : slot_ok S ≡ true) (cap : 2 ≤ capacity P) where
     -- a stretch, fair to both, in which both are willing
     abbrev Fit : List Happening → World → Type 0
     Fit ms w = AllTyped ms × ((side : Side) → AllFair side ms w × WillingAmid side ms w)
@@ -494,13 +494,13 @@ module _ (P S v : ℕ) (on : Bool) (goal : ℕ) where
     tail-fits h ms w f = (f.0.1, λ side. ((f.1 side).0.1, (f.1 side).1.1))
 
     deed-here : (h : Happening) (ms : List Happening) (w : World) → Fit (h ∷ ms) w → Night w → Deed P S v on h (done_by h) w (happens h w)
-    deed-here h ms w f y = deed P S v on power-ok Slot-ok h w f.0.0 y.real
+    deed-here h ms w f y = deed P S v on power-ok slot-ok h w f.0.0 y.real
 
     night-next : (h : Happening) (ms : List Happening) (w : World) → Fit (h ∷ ms) w → Night w → Night (happens h w)
     night-next h ms w f y =
         record {
-          real = real-happens P S v on power-ok Slot-ok h w f.0.0 y.real;
-          ready = λ side. ready-happens P S v on power-ok Slot-ok side h w f.0.0 (f.1 side).0.0 y.real (y.ready side);
+          real = real-happens P S v on power-ok slot-ok h w f.0.0 y.real;
+          ready = λ side. ready-happens P S v on power-ok slot-ok side h w f.0.0 (f.1 side).0.0 y.real (y.ready side);
           few = λ side. few-deed P S v on h w (happens h w) side (done_by h) (deed-here h ms w f y) (y.few side);
           calls = λ side. calls-deed h w (happens h w) side (done_by h) (deed-here h ms w f y) (f.1 side).1.0 (y.calls side);
         }
@@ -513,7 +513,7 @@ module _ (P S v : ℕ) (on : Bool) (goal : ℕ) where
     through n (h ∷ ms) w f top s r a b p q y =
         let next = night-next h ms w f y.night in
         through n ms (happens h w) (tail-fits h ms w f) top (s - pick (same_side Sender (done_by h)) (tick_by calling h w) 0) (r - pick (same_side Recorder (done_by h)) (tick_by calling h w) 0) (omega arith) (omega arith) (omega arith) (omega arith)
-        (one-deed cap n h w (happens h w) next (omega (arith, count-run P S v on power-ok Slot-ok Sender ms (happens h w) f.0.1 next.real)) s r a b (done_by h) (deed-here h ms w f y.night) (λ side. (f.1 side).1.0) (λ side. (f.1 side).0.0) y)
+        (one-deed cap n h w (happens h w) next (omega (arith, count-run P S v on power-ok slot-ok Sender ms (happens h w) f.0.1 next.real)) s r a b (done_by h) (deed-here h ms w f y.night) (λ side. (f.1 side).1.0) (λ side. (f.1 side).0.0) y)
 
     -- a round: one fewer
     round : (n : ℕ) (ms : List Happening) (w : World) → Round goal ms w → count_of Sender (run ms w).trace ≤ goal → Both (suc n) 0 0 w → (goal ≤ count_of Recorder w.trace) ⊎ Both n 0 0 (run ms w)
@@ -560,8 +560,8 @@ module _ (P S v : ℕ) (on : Bool) (goal : ℕ) where
     in-the-end : (rounds : List (List Happening)) (w : World) → Real P S v on w → Rounds goal rounds w → Real P S v on (played_out rounds w) × ((side : Side) → count_of side w.trace ≤ count_of side (played_out rounds w).trace)
     in-the-end [] w y r = (y, λ side. omega arith)
     in-the-end (ms ∷ rounds) w y r =
-        let z = in-the-end rounds (run ms w) (real-run P S v on power-ok Slot-ok ms w r.0.0 y) r.1 in
-        (z.0, λ side. omega (arith, count-run P S v on power-ok Slot-ok side ms w r.0.0 y, z.1 side))
+        let z = in-the-end rounds (run ms w) (real-run P S v on power-ok slot-ok ms w r.0.0 y) r.1 in
+        (z.0, λ side. omega (arith, count-run P S v on power-ok slot-ok side ms w r.0.0 y, z.1 side))
 
     all-night : (rounds : List (List Happening)) (w : World) (n : ℕ) → n ≤ length rounds → Rounds goal rounds w → count_of Sender (played_out rounds w).trace ≤ goal → Both n 0 0 w → goal ≤ count_of Recorder (played_out rounds w).trace
     all-night [] w zero l r top y = none_left w y
@@ -569,14 +569,14 @@ module _ (P S v : ℕ) (on : Bool) (goal : ℕ) where
     all-night (ms ∷ rounds) w zero l r top y = omega (arith, none_left w y, (in-the-end (ms ∷ rounds) w y.night.real r).1 Recorder)
     all-night (ms ∷ rounds) w (suc n) l r top y =
         ⊎_elim (λ z. omega (arith, (in-the-end (ms ∷ rounds) w y.night.real r).1 Recorder)) (all-night rounds (run ms w) n (omega arith) r.1 top)
-        (round n ms w r.0 (omega (arith, (in-the-end rounds (run ms w) (real-run P S v on power-ok Slot-ok ms w r.0.0 y.night.real) r.1).1 Sender)) y)
+        (round n ms w r.0 (omega (arith, (in-the-end rounds (run ms w) (real-run P S v on power-ok slot-ok ms w r.0.0 y.night.real) r.1).1 Sender)) y)
 
 module _ (r : List ℕ) (P S : ℕ) (on : Bool) (v : ℕ) (fresh : Fresh r P S on v) where
   pub whole-night : WholeNight r P S on v
   whole-night hs t f c n rounds x top long longer =
       let w = reached r P S on v hs in
       let power-ok = power-fits r P S on v fresh in
-      let Slot-ok = slot-fits r P S on v fresh in
+      let slot-ok = slot-fits r P S on v fresh in
       let goal = length w.trace.sent + n in
       let cap = capacity-least P power-ok in
       let real = real-reached r P S on v fresh hs t in
@@ -585,9 +585,9 @@ module _ (r : List ℕ) (P S : ℕ) (on : Bool) (v : ℕ) (fresh : Fresh r P S o
       let note = waiting-is r P S on v fresh hs t in
       let x' : length w.trace.sent + n - length w.trace.sent ≡ n = omega arith in
       let y' : length w.trace.sent + n - length w.trace.delivered ≡ n + waiting w = omega arith in
-      let end = in-the-end P S v on goal power-ok Slot-ok cap rounds w real x in
+      let end = in-the-end P S v on goal power-ok slot-ok cap rounds w real x in
       let all =
-      all-night P S v on goal power-ok Slot-ok cap rounds w (length rounds) (omega arith) x top
+      all-night P S v on goal power-ok slot-ok cap rounds w (length rounds) (omega arith) x top
       record {
         night = record { real = real; ready = λ side. ready-reached r P S on v fresh side hs t (f side); few = few-reached r P S on v fresh hs t; calls = calls };
         sender = part-start P S v on goal Sender Recorder (length rounds) w (omega (arith, stores-most (party_in w Sender).step (goal - length w.trace.sent + 1))) (omega arith) (calls Recorder);

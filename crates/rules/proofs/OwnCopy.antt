@@ -37,12 +37,12 @@ use Rattle.rules.proofs.Asks.{run-parts}
 abbrev Same : World → World → Side → Type 0
 Same w u side = (party_in w side).own.attached ≡ true → (party_in u side).own ≡ (party_in w side).own
 
-module _ (P S v : ℕ) (on : Bool) (power-ok : power_ok P ≡ true) (Slot-ok : slot_ok S ≡ true) where
+module _ (P S v : ℕ) (on : Bool) (power-ok : power_ok P ≡ true) (slot-ok : slot_ok S ≡ true) where
   own-stays : (h : Happening) (w : World) → Typed h → Real P S v on w → (side : Side) → Same w (happens h w) side
   unfolding attach_reply
-  own-stays h w y real = happens-by P S v on power-ok Slot-ok (λ u. (side : Side) → Same w u side) h w y real attach turn call
+  own-stays h w y real = happens-by P S v on power-ok slot-ok (λ u. (side : Side) → Same w u side) h w y real attach turn call
     where
-      attach : (mover : Side) (n : ℕ) (side : Side) → Same w (attach_world P S v on power-ok Slot-ok w real mover n) side
+      attach : (mover : Side) (n : ℕ) (side : Side) → Same w (attach_world P S v on power-ok slot-ok w real mover n) side
       attach mover n = by (eqb (number (attach_answer w.region mover n)) 0) refl
         where
           seats : (mover side : Side) → (party_in w mover).own.attached ≡ false → (party_in w side).own.attached ≡ true
@@ -52,7 +52,7 @@ module _ (P S v : ℕ) (on : Bool) (power-ok : power_ok P ≡ true) (Slot-ok : s
           seats Recorder Sender f h = refl
           seats Recorder Recorder f h = absurd (let q = sym f ∙ h in let z : ◌≡◌ {A = ℕ} 0 1 = cc in omega arith)
 
-          by : (b : Bool) → eqb (number (attach_answer w.region mover n)) 0 ≡ b → (side : Side) → Same w (attach_world P S v on power-ok Slot-ok w real mover n) side
+          by : (b : Bool) → eqb (number (attach_answer w.region mover n)) 0 ≡ b → (side : Side) → Same w (attach_world P S v on power-ok slot-ok w real mover n) side
           by true e side h = rw e (seats mover side (sym (real.sides mover).seat.attached-bit ∙ bit-clear w.region mover n e) h)
           by false e side h = rw e refl
 
@@ -62,10 +62,10 @@ module _ (P S v : ℕ) (on : Bool) (power-ok : power_ok P ≡ true) (Slot-ok : s
           by : (b : Bool) → takes w mover payload lent fault ≡ b → (party_in (turn_world w mover payload lent fault) side).own ≡ (party_in w side).own
           by false g = ap (λ (u : World). (party_in u side).own) (turn-refused w mover payload lent fault g)
           by true g =
-              ap (λ (u : World). (party_in u side).own) (turn-is-after P S v on power-ok Slot-ok w real mover payload lent fault g)
-              ∙ both-sides mover (λ τ. (party_in (after_turn P S v on power-ok Slot-ok w real mover payload lent fault g) τ).own ≡ (party_in w τ).own)
-              (rw (mover-is P S v on power-ok Slot-ok w real mover payload lent fault g) refl)
-              (rw (waiter-is P S v on power-ok Slot-ok w real mover payload lent fault g) (roused (other mover) (party_in w (other mover)) (woke_of (next_spec (party_in w mover)) (error_of fault))).own)
+              ap (λ (u : World). (party_in u side).own) (turn-is-after P S v on power-ok slot-ok w real mover payload lent fault g)
+              ∙ both-sides mover (λ τ. (party_in (after_turn P S v on power-ok slot-ok w real mover payload lent fault g) τ).own ≡ (party_in w τ).own)
+              (rw (mover-is P S v on power-ok slot-ok w real mover payload lent fault g) refl)
+              (rw (waiter-is P S v on power-ok slot-ok w real mover payload lent fault g) (roused (other mover) (party_in w (other mover)) (woke_of (next_spec (party_in w mover)) (error_of fault))).own)
               side
 
       call : (mover : Side) (q : Party) → Changed mover (party_in w mover) q → (side : Side) → Same w (seated P S v on w mover q) side
@@ -82,7 +82,7 @@ module _ (P S v : ℕ) (on : Bool) (power-ok : power_ok P ≡ true) (Slot-ok : s
   own-kept [] w t real side h = refl
   own-kept (x ∷ hs) w t real side h =
       let e = own-stays x w t.0 real side h in
-      own-kept hs (happens x w) t.1 (real-happens P S v on power-ok Slot-ok x w t.0 real) side (ap (λ (o : Own). o.attached) e ∙ h) ∙ e
+      own-kept hs (happens x w) t.1 (real-happens P S v on power-ok slot-ok x w t.0 real) side (ap (λ (o : Own). o.attached) e ∙ h) ∙ e
 
 module _ (r : List ℕ) (P S : ℕ) (on : Bool) (v : ℕ) (fresh : Fresh r P S on v) where
   pub own-copy : (side : Side) → OwnCopy r P S on v side
@@ -97,8 +97,8 @@ module _ (r : List ℕ) (P S : ℕ) (on : Bool) (v : ℕ) (fresh : Fresh r P S o
       let u = happens (attaches side n) w in
       let here : party_in u side ≡ attached w.region side n = rw e (seat-one side w.bench (attached w.region side n)) in
       let power-ok = power-fits r P S on v fresh in
-      let Slot-ok = slot-fits r P S on v fresh in
-      let real = real-happens P S v on power-ok Slot-ok (attaches side n) w tt (real-reached r P S on v fresh hs t) in
+      let slot-ok = slot-fits r P S on v fresh in
+      let real = real-happens P S v on power-ok slot-ok (attaches side n) w tt (real-reached r P S on v fresh hs t) in
       ap (λ (x : World). (party_in x side).own.spins) (run-parts hs (attaches side n ∷ ms) (opened (created r P S on v)))
-      ∙ ap (λ (o : Own). o.spins) (own-kept P S v on power-ok Slot-ok ms u y real side (ap (λ (p : Party). p.own.attached) here))
+      ∙ ap (λ (o : Own). o.spins) (own-kept P S v on power-ok slot-ok ms u y real side (ap (λ (p : Party). p.own.attached) here))
       ∙ ap (λ (p : Party). p.own.spins) here

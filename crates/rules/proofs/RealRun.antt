@@ -34,12 +34,12 @@ use Rattle.rules.proofs.Taken.{turn_world}
 use Rattle.rules.proofs.RealTurn.{real-turned}
 use Rattle.rules.proofs.RealCalls.{Changed, seated, push-changes, pop-changes, close-changes, shut-changes, spurious-changes, timeout-changes, real-called}
 use Rattle.rules.proofs.RealAttach.{attach_world, real-attached}
-use Rattle.rules.proofs.Real.{Side-good, Real}
+use Rattle.rules.proofs.Real.{SideGood, Real}
 
-module _ (P S v : ℕ) (on : Bool) (power-ok : power_ok P ≡ true) (Slot-ok : slot_ok S ≡ true) where
+module _ (P S v : ℕ) (on : Bool) (power-ok : power_ok P ≡ true) (slot-ok : slot_ok S ≡ true) where
   -- whatever happens is an attach, a turn, or a call that changes its own party's record or nothing
   pub happens-by : (F : World → Type 0) (h : Happening) (w : World) → Typed h → (real : Real P S v on w)
-      → ((side : Side) (spins : ℕ) → F (attach_world P S v on power-ok Slot-ok w real side spins))
+      → ((side : Side) (spins : ℕ) → F (attach_world P S v on power-ok slot-ok w real side spins))
       → ((side : Side) (payload lent : List ℕ) (fault : Fault) → F (turn_world w side payload lent fault))
       → ((side : Side) (q : Party) → Changed side (party_in w side) q → F (seated P S v on w side q))
       → F (happens h w)
@@ -56,7 +56,7 @@ module _ (P S v : ℕ) (on : Bool) (power-ok : power_ok P ≡ true) (Slot-ok : s
 
   pub real-happens : (h : Happening) (w : World) → Typed h → Real P S v on w → Real P S v on (happens h w)
   real-happens h w y real =
-      happens-by (Real P S v on) h w y real (real-attached P S v on power-ok Slot-ok w real) (real-turned P S v on power-ok Slot-ok w real) (real-called P S v on w real)
+      happens-by (Real P S v on) h w y real (real-attached P S v on power-ok slot-ok w real) (real-turned P S v on power-ok slot-ok w real) (real-called P S v on w real)
 
   pub real-run : (hs : List Happening) (w : World) → AllTyped hs → Real P S v on w → Real P S v on (run hs w)
   unfolding run
@@ -113,7 +113,7 @@ module _ (r : List ℕ) (P S : ℕ) (on : Bool) (v : ℕ) (fresh : Fresh r P S o
   unfolding spins_ok
   none-few = refl
 
-  side-starts : (side : Side) → Side-good P S v on side region (party_in (opened region) side) (opened region).trace
+  side-starts : (side : Side) → SideGood P S v on side region (party_in (opened region) side) (opened region).trace
   side-starts Sender =
       record {
         word = counter-starts Sender;

@@ -157,7 +157,7 @@ module _ (P S v : ℕ) (on : Bool) where
   Wakes side hs n w =
       (first : List Happening) × ((rest : List Happening) × ((hs ≡ first ++ rest) × ((turns_by moves (other side) first w ≤ n) × ((party_in (run first w) side).step ≡ Asleep → ⊥))))
 
-  module _ (power-ok : power_ok P ≡ true) (Slot-ok : slot_ok S ≡ true) (side : Side) where
+  module _ (power-ok : power_ok P ≡ true) (slot-ok : slot_ok S ≡ true) (side : Side) where
     awake-now : (hs : List Happening) (n : ℕ) (w : World) → ((party_in w side).step ≡ Asleep → ⊥) → Wakes side hs n w
     unfolding run
     awake-now hs n w e = ([], (hs, (refl, (omega arith, e))))
@@ -178,10 +178,10 @@ module _ (P S v : ℕ) (on : Bool) where
     rouse (h ∷ hs) w t f real ready n y long =
         ⊎_elim
         (λ e.
-        let d = one-deed n h w (happens h w) side (done_by h) e ready (deed P S v on power-ok Slot-ok h w t.0 real) (y e) in
+        let d = one-deed n h w (happens h w) side (done_by h) e ready (deed P S v on power-ok slot-ok h w t.0 real) (y e) in
         let q = d.1.1 in
         one_more h hs n d.0 w q
-        (rouse hs (happens h w) t.1 f.1 (real-happens P S v on power-ok Slot-ok h w t.0 real) (ready-happens P S v on power-ok Slot-ok side h w t.0 f.0 real ready) d.0 (λ a. d.1.0) (omega arith)))
+        (rouse hs (happens h w) t.1 f.1 (real-happens P S v on power-ok slot-ok h w t.0 real) (ready-happens P S v on power-ok slot-ok side h w t.0 f.0 real ready) d.0 (λ a. d.1.0) (omega arith)))
         (awake-now (h ∷ hs) n w)
         (is-asleep (party_in w side).step)
 

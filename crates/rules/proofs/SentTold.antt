@@ -46,7 +46,7 @@ use Rattle.rules.specs.Run.{Note, Trace, World, Happening, attaches, plays, part
 use Rattle.rules.specs.Phase.{Phase, resting, looking, copying, publishing, telling, asking, armed, poised, waits, sleeps, glancing, leaving, phase}
 use Rattle.rules.specs.Premises.{AllTyped}
 use Rattle.rules.specs.Claims.{turn_of, Fresh, reached}
-use Rattle.rules.specs.Asked.{Call, no_call, copy_of, parting, at_copy, turn_call, call_after, call_by, AsNamed}
+use Rattle.rules.specs.Asked.{Call, no_call, copy_of, superseded, at_copy, turn_call, call_after, call_by, AsNamed}
 use Rattle.rules.specs.Meaning.{call_of, gave, Published, first_lent, tells_note, told_after, told_by, SentAsTold}
 use Rattle.rules.proofs.Leads.{Sight, Onward, straight, around, onward, asks, Leads, idles, finds, blocks, gives_up, copies, spills, tells, stores, owes, passes, raises, wakes, enters, stops, finds-spin, spins, reads, finds-again, stays, enters-again, stops-again, sleeps as falls-asleep, returns, ends, dreams, glances, glances-again, times-out, finds-last, finds-none, closes, closes-alone, close-raises, close-wakes, shuts, shut-raises, shut-wakes, shut-raises-again, shut-wakes-again}
 use Rattle.rules.proofs.Answered.{given-first}
@@ -430,9 +430,9 @@ module _ (r : List ℕ) (P S : ℕ) (on : Bool) (v : ℕ) (fresh : Fresh r P S o
         begun-keeps Here p (ready Sender p) p.closed (b && not p.own.notfull) (not (leb l (payload_capacity p.own.slot))) (named b k l p) c
         (record { last = true; blocking = b; tag = k; length = l; before = w.trace.sent; copied = [] }) y (λ e. at_rest (ready-rests Sender p e))
     line-happens (plays (Pop b l) i o) = y
-    line-happens (plays (Close Sender) i o) = begun-keeps Here p (ready Sender p) p.closed false false (at CloseSet p) c (parting c) y (λ e. at_rest (ready-rests Sender p e))
+    line-happens (plays (Close Sender) i o) = begun-keeps Here p (ready Sender p) p.closed false false (at CloseSet p) c (superseded c) y (λ e. at_rest (ready-rests Sender p e))
     line-happens (plays (Close Recorder) i o) = y
-    line-happens (plays (Shutdown Sender) i o) = begun-keeps Here p (ready Sender p) false false false (at (ShutSet false) p) c (parting c) y (λ e. at_rest (ready-rests Sender p e))
+    line-happens (plays (Shutdown Sender) i o) = begun-keeps Here p (ready Sender p) false false false (at (ShutSet false) p) c (superseded c) y (λ e. at_rest (ready-rests Sender p e))
     line-happens (plays (Shutdown Recorder) i o) = y
 
   -- a run with one happening more

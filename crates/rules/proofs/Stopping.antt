@@ -194,7 +194,7 @@ module _ (P S v : ℕ) (on : Bool) (l c : ℕ) (few : l + c ≤ 1) where
 
   -- the first part of a stretch after which the call has ended. `Keeps` says of what is ahead what T4's claims differ by: that a
   -- sleeper is roused, and that the other gives no room
-  module _ (power-ok : power_ok P ≡ true) (Slot-ok : slot_ok S ≡ true) (counted : Stance → Bool) (count : Count counted) (side : Side) where
+  module _ (power-ok : power_ok P ≡ true) (slot-ok : slot_ok S ≡ true) (counted : Stance → Bool) (count : Count counted) (side : Side) where
     abbrev pub Ended : List Happening → (n : ℕ) → World → Type 0
     Ended ms n w = (first : List Happening) × ((rest : List Happening) × ((ms ≡ first ++ rest) × ((turns_by counted side first w ≤ n) × ((party_in (run first w) side).step ≡ Rest))))
 
@@ -211,9 +211,9 @@ module _ (P S v : ℕ) (on : Bool) (l c : ℕ) (few : l + c ≤ 1) where
       ending-run (h ∷ ms) w t real y n e long =
           by (party_in w side).step refl (kind (party_in w side).step)
           (λ i.
-          let one = one-deed h w (happens h w) counted count side (done_by h) (deed P S v on power-ok Slot-ok h w t.0 real) (s.rouses (h ∷ ms) w e.stop.up y) i (s.gives_none h ms w real y) n e in
+          let one = one-deed h w (happens h w) counted count side (done_by h) (deed P S v on power-ok slot-ok h w t.0 real) (s.rouses (h ∷ ms) w e.stop.up y) i (s.gives_none h ms w real y) n e in
           let q = one.1.1 in
-          let more = ending-run ms (happens h w) t.1 (real-happens P S v on power-ok Slot-ok h w t.0 real) (s.goes_on h ms w t.0 real y) one.0 one.1.0 (omega arith) in
+          let more = ending-run ms (happens h w) t.1 (real-happens P S v on power-ok slot-ok h w t.0 real) (s.goes_on h ms w t.0 real y) one.0 one.1.0 (omega arith) in
           (h ∷ more.0, (more.1.0, (ap (λ (u : List Happening). h ∷ u) more.1.1.0, (omega (arith, more.1.1.1.0), more.1.1.1.1)))))
         where
           by : (x : Step) → (party_in w side).step ≡ x → Kind x → (((party_in w side).step ≡ Rest → ⊥) → Ended (h ∷ ms) n w) → Ended (h ∷ ms) n w

@@ -37,7 +37,7 @@ use Rattle.rules.proofs.Stopping.{one_more, looks-most, last-is}
 use Rattle.rules.proofs.Exactly.{exactly}
 use Rattle.rules.proofs.Real.{room_in, Real}
 
-module _ (P S v : ℕ) (on : Bool) (power-ok : power_ok P ≡ true) (Slot-ok : slot_ok S ≡ true) where
+module _ (P S v : ℕ) (on : Bool) (power-ok : power_ok P ≡ true) (slot-ok : slot_ok S ≡ true) where
   -- no room, a flag up, between a spin and the end, so many turns left
   record Stopping (side : Side) (door : Door) (n : ℕ) (w : World) : Type 0 where
     real : Real P S v on w
@@ -58,29 +58,29 @@ module _ (P S v : ℕ) (on : Bool) (power-ok : power_ok P ≡ true) (Slot-ok : s
 
     module _ (n : ℕ) (w : World) (d : Stopping side door (suc n) w) (payload lent : List ℕ) (g : takes w side payload lent Fine ≡ true) where
       abbrev next : Step
-      next = next-step P S v on power-ok Slot-ok w d.real side payload lent Fine g
+      next = next-step P S v on power-ok slot-ok w d.real side payload lent Fine g
 
       abbrev after : World
-      after = after_turn P S v on power-ok Slot-ok w d.real side payload lent Fine g
+      after = after_turn P S v on power-ok slot-ok w d.real side payload lent Fine g
 
       nearer-here : (stopping next ≡ true) × (to_rest (last_at side door) 0 next 0 ≡ less (to_rest (last_at side door) 0 (party_in w side).step 0))
       nearer-here =
           subst (λ (z : Door). (stopping next ≡ true) × (to_rest (last_at side z) 0 next 0 ≡ less (to_rest (last_at side z) 0 (party_in w side).step 0))) d.seen
-          (nears _ d.room (ap barred d.seen ∙ up) (party_in w side).step next (leads-here P S v on power-ok Slot-ok w d.real side payload lent Fine g) d.at)
+          (nears _ d.room (ap barred d.seen ∙ up) (party_in w side).step next (leads-here P S v on power-ok slot-ok w d.real side payload lent Fine g) d.at)
 
       stopping-after : Stopping side door n after
       stopping-after =
-          let me = mover-is P S v on power-ok Slot-ok w d.real side payload lent Fine g in
+          let me = mover-is P S v on power-ok slot-ok w d.real side payload lent Fine g in
           record {
-            real = real-after P S v on power-ok Slot-ok w d.real side payload lent Fine g;
-            room = none_after P S v on power-ok Slot-ok w d.real side payload lent Fine g d.room;
-            seen = ap (door_of side) (flags-same P S v on power-ok Slot-ok w d.real side payload lent Fine g (sets-none stopping refl (λ c. refl) (party_in w side).step d.at)) ∙ d.seen;
+            real = real-after P S v on power-ok slot-ok w d.real side payload lent Fine g;
+            room = none_after P S v on power-ok slot-ok w d.real side payload lent Fine g d.room;
+            seen = ap (door_of side) (flags-same P S v on power-ok slot-ok w d.real side payload lent Fine g (sets-none stopping refl (λ c. refl) (party_in w side).step d.at)) ∙ d.seen;
             at = rw me nearer-here.0;
             left = rw me (nearer-here.1 ∙ ap less d.left);
           }
 
       turn : Stopping side door n (turn_world w side payload lent Fine)
-      turn = subst (Stopping side door n) (sym (turn-is-after P S v on power-ok Slot-ok w d.real side payload lent Fine g)) stopping-after
+      turn = subst (Stopping side door n) (sym (turn-is-after P S v on power-ok slot-ok w d.real side payload lent Fine g)) stopping-after
 
 module _ (r : List ℕ) (P S : ℕ) (on : Bool) (v : ℕ) (fresh : Fresh r P S on v) where
   pub stops-after : (side : Side) → StopsAfter r P S on v side
@@ -88,11 +88,11 @@ module _ (r : List ℕ) (P S : ℕ) (on : Bool) (v : ℕ) (fresh : Fresh r P S o
       let w = reached r P S on v hs in
       let flags = le_at 4 w.region flags_at in
       let power-ok = power-fits r P S on v fresh in
-      let Slot-ok = slot-fits r P S on v fresh in
+      let slot-ok = slot-fits r P S on v fresh in
       let door = door_of side flags in
       let last = last-is side flags up in
-      let start : Stopping P S v on power-ok Slot-ok side door (n + 4 + pick (bit_on (worth ShutMark) flags) 0 (last_looks side)) w =
+      let start : Stopping P S v on power-ok slot-ok side door (n + 4 + pick (bit_on (worth ShutMark) flags) 0 (last_looks side)) w =
       record { real = real-reached r P S on v fresh hs t; room = sym (room-is r P S on v fresh side hs t) ∙ none; seen = refl; at = ap stopping at; left = ap (λ (s : Step). to_rest (last_at side door) 0 s 0) at ∙ ap (λ (l : ℕ). n + 4 + l) last } in
       let barred-here = stop-barred side flags ∙ up in
-      let done = exactly side (Stopping P S v on power-ok Slot-ok side door) (moving P S v on power-ok Slot-ok side door barred-here) (turn P S v on power-ok Slot-ok side door barred-here) ms w turns _ start long in
-      (done.0, (done.1.0, (done.1.1.0, (done.1.1.1.0, subst (λ (u : World). (party_in u side).step ≡ Rest) (sym (run-parts hs done.0 (opened (created r P S on v)))) (rested P S v on power-ok Slot-ok side door barred-here (run done.0 w) done.1.1.1.1)))))
+      let done = exactly side (Stopping P S v on power-ok slot-ok side door) (moving P S v on power-ok slot-ok side door barred-here) (turn P S v on power-ok slot-ok side door barred-here) ms w turns _ start long in
+      (done.0, (done.1.0, (done.1.1.0, (done.1.1.1.0, subst (λ (u : World). (party_in u side).step ≡ Rest) (sym (run-parts hs done.0 (opened (created r P S on v)))) (rested P S v on power-ok slot-ok side door barred-here (run done.0 w) done.1.1.1.1)))))

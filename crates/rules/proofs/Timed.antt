@@ -199,22 +199,22 @@ rouses-glance F p false a q h f = h
 rouses-glance F p true false q h f = h
 rouses-glance F p true true q h f = f refl
 
-module _ (P S v : ℕ) (on : Bool) (power-ok : power_ok P ≡ true) (Slot-ok : slot_ok S ≡ true) where
+module _ (P S v : ℕ) (on : Bool) (power-ok : power_ok P ≡ true) (slot-ok : slot_ok S ≡ true) where
   mine-after : (w : World) (real : Real P S v on w) (side : Side) (payload lent : List ℕ) (fault : Fault) (g : takes w side payload lent fault ≡ true) (b : Bool)
-      → ((e : ℕ) → (party_in w side).step ≡ Wait e → eqb (error_of fault) 110 ≡ true → b ≡ true) → In side b (after_turn P S v on power-ok Slot-ok w real side payload lent fault g)
+      → ((e : ℕ) → (party_in w side).step ≡ Wait e → eqb (error_of fault) 110 ≡ true → b ≡ true) → In side b (after_turn P S v on power-ok slot-ok w real side payload lent fault g)
   unfolding move_of wait_move
   mine-after w real side payload lent fault g b h =
       let p = party_in w side in
       let value = value_of w.region p.own (next_spec p) in
-      rw (mover-is P S v on power-ok Slot-ok w real side payload lent fault g)
-      (glance-on side _ refl b p.step (next-step P S v on power-ok Slot-ok w real side payload lent fault g)
+      rw (mover-is P S v on power-ok slot-ok w real side payload lent fault g)
+      (glance-on side _ refl b p.step (next-step P S v on power-ok slot-ok w real side payload lent fault g)
       (λ e s n. h e s (timed-error (error_of fault) (eqb value e) (nap-timed _ _ (error_of fault) e (subst (λ (u : Step). step_after (move_at u p.own p.counter p.blocking p.length value (error_of fault)) u ≡ LastLook true) s n))))
-      (leads-here P S v on power-ok Slot-ok w real side payload lent fault g))
+      (leads-here P S v on power-ok slot-ok w real side payload lent fault g))
 
   theirs-after : (w : World) (real : Real P S v on w) (side : Side) (payload lent : List ℕ) (fault : Fault) (g : takes w side payload lent fault ≡ true) (b : Bool)
-      → In (other side) b w → In (other side) b (after_turn P S v on power-ok Slot-ok w real side payload lent fault g)
+      → In (other side) b w → In (other side) b (after_turn P S v on power-ok slot-ok w real side payload lent fault g)
   theirs-after w real side payload lent fault g b y =
-      rw (waiter-is P S v on power-ok Slot-ok w real side payload lent fault g)
+      rw (waiter-is P S v on power-ok slot-ok w real side payload lent fault g)
       (roused-elim (roused (other side) (party_in w (other side)) (woke_of (next_spec (party_in w side)) (error_of fault))) (Glance (other side) b) y (λ e. tt))
 
   glance-turn : (σ side : Side) (w : World) → Real P S v on w → (payload lent : List ℕ) (fault : Fault) (b d : Bool) → (b ≡ true → d ≡ true)
@@ -223,14 +223,14 @@ module _ (P S v : ℕ) (on : Bool) (power-ok : power_ok P ≡ true) (Slot-ok : s
   glance-turn σ side w real payload lent fault b d m h y = by (takes w side payload lent fault) refl
     where
       taken : (σ side : Side) (g : takes w side payload lent fault ≡ true) → (σ ≡ side → takes w side payload lent fault ≡ true → (e : ℕ) → (party_in w side).step ≡ Wait e → eqb (error_of fault) 110 ≡ true → d ≡ true)
-          → In σ b w → In σ d (after_turn P S v on power-ok Slot-ok w real side payload lent fault g)
+          → In σ b w → In σ d (after_turn P S v on power-ok slot-ok w real side payload lent fault g)
       taken Sender Sender g h y = mine-after w real Sender payload lent fault g d (h refl g)
       taken Recorder Recorder g h y = mine-after w real Recorder payload lent fault g d (h refl g)
-      taken Sender Recorder g h y = glance-more Sender b d (party_in (after_turn P S v on power-ok Slot-ok w real Recorder payload lent fault g) Sender).step m (theirs-after w real Recorder payload lent fault g b y)
-      taken Recorder Sender g h y = glance-more Recorder b d (party_in (after_turn P S v on power-ok Slot-ok w real Sender payload lent fault g) Recorder).step m (theirs-after w real Sender payload lent fault g b y)
+      taken Sender Recorder g h y = glance-more Sender b d (party_in (after_turn P S v on power-ok slot-ok w real Recorder payload lent fault g) Sender).step m (theirs-after w real Recorder payload lent fault g b y)
+      taken Recorder Sender g h y = glance-more Recorder b d (party_in (after_turn P S v on power-ok slot-ok w real Sender payload lent fault g) Recorder).step m (theirs-after w real Sender payload lent fault g b y)
 
       by : (x : Bool) → takes w side payload lent fault ≡ x → In σ d (turn_world w side payload lent fault)
-      by true g = subst (In σ d) (sym (turn-is-after P S v on power-ok Slot-ok w real side payload lent fault g)) (taken σ side g h y)
+      by true g = subst (In σ d) (sym (turn-is-after P S v on power-ok slot-ok w real side payload lent fault g)) (taken σ side g h y)
       by false g = subst (In σ d) (sym (turn-refused w side payload lent fault g)) (glance-more σ b d (party_in w σ).step m y)
 
   glance-attach : (σ side : Side) (n : ℕ) (w : World) (b : Bool) → In σ b w → In σ b (happens (attaches side n) w)
@@ -289,7 +289,7 @@ module _ (P S v : ℕ) (on : Bool) (power-ok : power_ok P ≡ true) (Slot-ok : s
   glance-run : (σ : Side) (hs : List Happening) (w : World) → AllTyped hs → Real P S v on w → (b : Bool) → In σ b w → In σ (timed_by σ hs w b) (run hs w)
   unfolding run
   glance-run σ [] w t real b y = y
-  glance-run σ (h ∷ hs) w t real b y = glance-run σ hs (happens h w) t.1 (real-happens P S v on power-ok Slot-ok h w t.0 real) (timed_after σ h w b) (glance-happens σ h w real b y)
+  glance-run σ (h ∷ hs) w t real b y = glance-run σ hs (happens h w) t.1 (real-happens P S v on power-ok slot-ok h w t.0 real) (timed_after σ h w b) (glance-happens σ h w real b y)
 
 module _ (r : List ℕ) (P S : ℕ) (on : Bool) (v : ℕ) (fresh : Fresh r P S on v) where
   start : (σ : Side) → In σ false (opened (created r P S on v))

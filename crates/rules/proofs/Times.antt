@@ -67,11 +67,11 @@ turns-off side F turn (l ∷ ls) w g d =
     (subst (F (length ls)) (sym (turn-happens side l.payload l.buffer l.fault w)) (turn (length ls) w d l.payload l.buffer l.fault g.0))
 
 -- the note that comes next fits the buffer that is named
-abbrev Room-for : Side → World → Type 0
-Room-for Sender w = Unit
-Room-for Recorder w = (n : Note) (rest : List Note) → w.trace.sent ≡ w.trace.delivered ++ (n ∷ rest) → length n.body ≤ (party_in w Recorder).length
+abbrev RoomFor : Side → World → Type 0
+RoomFor Sender w = Unit
+RoomFor Recorder w = (n : Note) (rest : List Note) → w.trace.sent ≡ w.trace.delivered ++ (n ∷ rest) → length n.body ≤ (party_in w Recorder).length
 
-room-same : (side : Side) (w u : World) → u.trace ≡ w.trace → (party_in u side).length ≡ (party_in w side).length → Room-for side w → Room-for side u
+room-same : (side : Side) (w u : World) → u.trace ≡ w.trace → (party_in u side).length ≡ (party_in w side).length → RoomFor side w → RoomFor side u
 room-same Sender w u e l h = tt
 room-same Recorder w u e l h = λ n rest q. rw l (h n rest (subst (λ (x : Trace). x.sent ≡ x.delivered ++ (n ∷ rest)) e q))
 
@@ -79,7 +79,7 @@ module _ (P S v : ℕ) (on : Bool) (power-ok : power_ok P ≡ true) (slot_ok_lem
   record Stands (s : Step) (w : World) : Type 0 where
     step : (party_in w side).step ≡ s
     some : 0 < room_in P S v on side w.trace
-    fits : Room-for side w
+    fits : RoomFor side w
     count : count_of side w.trace ≡ k
 
   -- so many turns are left until its note is out
@@ -143,7 +143,7 @@ module _ (P S v : ℕ) (on : Bool) (power-ok : power_ok P ≡ true) (slot_ok_lem
 
     -- what a copy leads to
     copied-to : (τ : Side) → (party_in w τ).own ≡ sizes P S v on τ (party_in w τ).own.spins → (party_in w τ).counter ≡ plus 64 v (count_of τ w.trace)
-        → (val : ℕ) → val ≡ value_of w.region (party_in w τ).own (slot_access τ (party_in w τ).counter) → 0 < room_in P S v on τ w.trace → Room-for τ w
+        → (val : ℕ) → val ≡ value_of w.region (party_in w τ).own (slot_access τ (party_in w τ).counter) → 0 < room_in P S v on τ w.trace → RoomFor τ w
         → (l : ℕ) × ((g : ℕ) × (step_after (copy_move (party_in w τ).own (party_in w τ).length val) Copy ≡ Publish l g))
     copied-to Sender o c val e h f = (0, (0, ap (λ (m : Move). step_after m Copy) (copy-by (party_in w Sender).own (party_in w Sender).length val Sender (ap (λ (x : Own). x.side) o))))
     copied-to Recorder o c val e h f =
@@ -254,7 +254,7 @@ module _ (r : List ℕ) (P S : ℕ) (on : Bool) (v : ℕ) (fresh : Fresh r P S o
       let end = turns-off side (Stage P S v on power-ok slot_ok_lem side k) (stage-turn P S v on power-ok slot_ok_lem side k) ls (happens h w) g (subst (λ (n : ℕ). Stage P S v on power-ok slot_ok_lem side k n (happens h w)) (sym three) start) in
       counted side (after_turns side ls (happens h w)).trace w.trace end.1.1
     where
-      enough : (side : Side) (hs : List Happening) → AllTyped hs → LongEnough r P S on v side hs → Room-for side (reached r P S on v hs)
+      enough : (side : Side) (hs : List Happening) → AllTyped hs → LongEnough r P S on v side hs → RoomFor side (reached r P S on v hs)
       enough Sender hs t l = tt
       enough Recorder hs t l = λ n rest e. rw (meant-reached r P S on v fresh Recorder hs t).keeps.length (l n rest e)
 

@@ -141,7 +141,7 @@ module _ (P S v : ℕ) (on : Bool) (counted : Stance → Bool) (count : Count co
     one-deed Recorder Sender mode d will f (k, y) = (x, (mode.theirs x h w u d k, their-deed r x goal n h w u Sender d (no-turn r x Recorder goal n w y)))
     one-deed Recorder Recorder mode d will f y = own-deed Recorder mode d (will refl) f y
 
-  module _ (power-ok : power_ok P ≡ true) (Slot-ok : slot_ok S ≡ true) (side : Side) (goal : ℕ) where
+  module _ (power-ok : power_ok P ≡ true) (slot-ok : slot_ok S ≡ true) (side : Side) (goal : ℕ) where
     module _ (r : Bool) (Keeps : Side → (x : ℕ) → World → Type 0) (mode : Mode P S v on r side (Keeps side)) where
       pub strides-on : (hs : List Happening) (w : World) → AllTyped hs → WillingAmid side hs w → (counted Sleeping ≡ true → AllFair side hs w) → Real P S v on w → (n x : ℕ)
           → Keeps side x w → StridesBy r x side goal (turns_by counted side hs w + n) w → (x' : ℕ) × (Keeps side x' (run hs w) × StridesBy r x' side goal n (run hs w))
@@ -149,9 +149,9 @@ module _ (P S v : ℕ) (on : Bool) (counted : Stance → Bool) (count : Count co
       strides-on [] w t m f real n x k y = (x, (k, no-turn r x side goal n w y))
       strides-on (h ∷ hs) w t m f real n x k y =
           let e : pick (same_side side (done_by h)) (tick_by counted h w) 0 + turns_by counted side hs (happens h w) + n ≡ pick (same_side side (done_by h)) (tick_by counted h w) 0 + (turns_by counted side hs (happens h w) + n) = omega arith in
-          let one = one-deed r Keeps goal (turns_by counted side hs (happens h w) + n) h w (happens h w) x side (done_by h) mode (deed P S v on power-ok Slot-ok h w t.0 real) m.0 (λ c. (f c).0)
+          let one = one-deed r Keeps goal (turns_by counted side hs (happens h w) + n) h w (happens h w) x side (done_by h) mode (deed P S v on power-ok slot-ok h w t.0 real) m.0 (λ c. (f c).0)
           (k, subst (λ (z : ℕ). StridesBy r x side goal z w) e y) in
-          strides-on hs (happens h w) t.1 m.1 (λ c. (f c).1) (real-happens P S v on power-ok Slot-ok h w t.0 real) n one.0 one.1.0 one.1.1
+          strides-on hs (happens h w) t.1 m.1 (λ c. (f c).1) (real-happens P S v on power-ok slot-ok h w t.0 real) n one.0 one.1.0 one.1.1
 
     -- the worst
     pub strides-run : (hs : List Happening) (w : World) → AllTyped hs → WillingAmid side hs w → (counted Sleeping ≡ true → AllFair side hs w) → Real P S v on w → (n : ℕ)
@@ -196,7 +196,7 @@ module _ (r : List ℕ) (P S : ℕ) (on : Bool) (v : ℕ) (fresh : Fresh r P S o
       let w = world hs in
       let typed = typed-parts hs ms t in
       let power-ok = power-fits r P S on v fresh in
-      let Slot-ok = slot-fits r P S on v fresh in
+      let slot-ok = slot-fits r P S on v fresh in
       let goal = count_of side w.trace + k in
       let start : StridesBy P S v on moves by-moves b x side goal (turns_by moves side ms w + 0) w =
       record {
@@ -207,9 +207,9 @@ module _ (r : List ℕ) (P S : ℕ) (on : Bool) (v : ℕ) (fresh : Fresh r P S o
         soon = omega arith;
         bright = λ e l. absurd (let z : ◌≡◌ {A = ℕ} 0 1 = cc in omega arith);
       } in
-      let end = strides-on P S v on moves by-moves power-ok Slot-ok side goal b Keeps mode ms w typed.1 will (λ e. absurd (let z : ◌≡◌ {A = ℕ} 0 1 = cc in omega arith)) (real-reached r P S on v fresh hs typed.0) 0 x keeps start in
+      let end = strides-on P S v on moves by-moves power-ok slot-ok side goal b Keeps mode ms w typed.1 will (λ e. absurd (let z : ◌≡◌ {A = ℕ} 0 1 = cc in omega arith)) (real-reached r P S on v fresh hs typed.0) 0 x keeps start in
       let last = subst (StridesBy P S v on moves by-moves b end.0 side goal 0) (sym (run-parts hs ms (opened (created r P S on v)))) end.1.1 in
-      rw (count-is side w.trace, count-is side (world (hs ++ ms)).trace) (strides-done P S v on moves by-moves power-ok Slot-ok side goal b end.0 (world (hs ++ ms)) last)
+      rw (count-is side w.trace, count-is side (world (hs ++ ms)).trace) (strides-done P S v on moves by-moves power-ok slot-ok side goal b end.0 (world (hs ++ ms)) last)
 
   pub wait-free : (side : Side) → WaitFree r P S on v side
   wait-free side hs ms t calls will k fits long = free-by true side (λ side x w. x ≡ 1) (worst P S v on side) hs ms t 1 refl calls will k fits (omega (arith, stores-most (party_in (world hs) side).step k))

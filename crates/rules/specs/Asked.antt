@@ -36,8 +36,8 @@ no_call = record { last = false; blocking = false; tag = 0; length = 0; before =
 abbrev pub copy_of : List ℕ → Call → Call
 copy_of lent c = record { last = c.last; blocking = c.blocking; tag = c.tag; length = c.length; before = c.before; copied = c.copied ++ (lent ∷ []) }
 
-abbrev pub parting : Call → Call
-parting c = record { last = false; blocking = c.blocking; tag = c.tag; length = c.length; before = c.before; copied = c.copied }
+abbrev pub superseded : Call → Call
+superseded c = record { last = false; blocking = c.blocking; tag = c.tag; length = c.length; before = c.before; copied = c.copied }
 
 -- 254
 abbrev pub begun : Answer → Bool
@@ -74,8 +74,8 @@ call_after side (plays (Pop blocking length) payload buffer) w c =
     pick (same_side side Recorder && begun (pop_spec (party_in w Recorder) blocking length).answer)
     (record { last = true; blocking = blocking; tag = 0; length = length; before = notes_of Recorder w.trace; copied = [] })
     c
-call_after side (plays (Close mover) payload buffer) w c = pick (same_side side mover && begun (close_spec mover (party_in w mover)).answer) (parting c) c
-call_after side (plays (Shutdown mover) payload buffer) w c = pick (same_side side mover && begun (shut_spec mover (party_in w mover)).answer) (parting c) c
+call_after side (plays (Close mover) payload buffer) w c = pick (same_side side mover && begun (close_spec mover (party_in w mover)).answer) (superseded c) c
+call_after side (plays (Shutdown mover) payload buffer) w c = pick (same_side side mover && begun (shut_spec mover (party_in w mover)).answer) (superseded c) c
 
 abbrev pub call_by : Side → List Happening → World → Call → Call
 call_by side [] w c = c

@@ -52,7 +52,7 @@ far head tail h power =
 most : (total payload : ℕ) → total_bytes most_power most_slot ≡ total → payload_capacity most_slot ≡ payload → Largest total payload
 unfolding payload_capacity power_ok slot_ok
 most total payload t p =
-    ((λ power slot power-ok Slot-ok. (rw t at (total-most slot Slot-ok power), omega (arith, slot-most slot Slot-ok))), (most_power, (most_slot, (refl, (refl, (t, p))))))
+    ((λ power slot power-ok slot-ok. (rw t at (total-most slot slot-ok power), omega (arith, slot-most slot slot-ok))), (most_power, (most_slot, (refl, (refl, (t, p))))))
 
 none-spins : spins_ok 0 ≡ true
 unfolding spins_ok
