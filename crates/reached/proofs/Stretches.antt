@@ -3,7 +3,7 @@ use mathlib.Core.Path.{◌≡◌, refl, sym, ap, ◌∙◌, subst}
 use mathlib.Core.Bool.{Bool, true, false}
 use mathlib.Core.List.{List, [], ◌∷◌, ◌++◌}
 use mathlib.Core.Logic.{◌⊎◌, inl, inr}
-use Prim.Native.Nat.{ℕ, zero, suc, ◌+◌, ◌-◌, ◌^◌, ◌<◌, ◌≤◌}
+use Prim.Native.Nat.{ℕ, zero, suc, ◌+◌, ◌^◌, ◌<◌, ◌≤◌}
 use native.Mathlib.Omega.{arith}
 use lib.ListN.{length, length-append}
 use lib.Seq.{get_or-append_seam}
@@ -27,7 +27,7 @@ use Rattle.rules.specs.Stretch.{moves, tick_by, ticks, Wills, Willing, before_co
 use Rattle.rules.specs.Claims.{Fresh, reached, Lasts}
 use Rattle.rules.specs.Phase.{phase}
 use Rattle.rules.proofs.Leads.{Leads}
-use Rattle.rules.proofs.Does.{does, raises as ring}
+use Rattle.rules.proofs.Does.{does}
 use Rattle.rules.proofs.Seats.{moved}
 use Rattle.rules.proofs.RealTurn.{next-step, sight, leads-here, after_turn, turn-is-after, real-turned}
 use Rattle.rules.proofs.RealCalls.{seat-one}

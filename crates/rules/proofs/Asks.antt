@@ -3,7 +3,7 @@ use mathlib.Core.Path.{◌≡◌, refl, sym, ◌∙◌, subst}
 use mathlib.Core.Bool.{Bool, true, false, not, ◌&&◌}
 use mathlib.Core.List.{List, [], ◌∷◌, ◌++◌}
 use mathlib.Core.Logic.{◌⊎◌, inl, inr}
-use Prim.Native.Nat.{ℕ, zero, suc, ◌+◌, ◌*◌, ◌-◌, ◌≤◌}
+use Prim.Native.Nat.{ℕ, zero, suc, ◌+◌, ◌*◌, ◌≤◌}
 use native.Mathlib.Omega.{arith}
 use lib.Dec.{leb}
 use Rattle.words.specs.Le.{le_at}
@@ -28,7 +28,7 @@ use Rattle.rules.specs.Bench.{settled, played, played_leaves}
 use Rattle.rules.specs.Run.{Note, World, Happening, attaches, plays, party_in, happens, run, opened}
 use Rattle.rules.specs.Premises.{Typed, AllTyped, AllFair, Quiet}
 use Rattle.rules.specs.Stretch.{moves, calling, tick_by, ticks_by, Wills, Willing, in_call, notes_of, counts_by, Big, slack}
-use Rattle.rules.specs.Claims.{room, Fresh, reached, Willed, Dead, Emptied, BoundedTicks, BoundedTicksDead, Bounded, BoundedBySlack}
+use Rattle.rules.specs.Claims.{room, Fresh, reached, Dead, Emptied, BoundedTicks, BoundedTicksDead, Bounded, BoundedBySlack}
 use Rattle.rules.specs.Phase.{phase}
 use Rattle.rules.proofs.Leads.{stop_at}
 use Rattle.rules.proofs.Taken.{turn_world}

@@ -1,6 +1,6 @@
 -- The turns that are left to a store: the cost falls by one at each.
 use mathlib.Core.Path.{◌≡◌, refl}
-use Prim.Native.Nat.{ℕ, zero, suc, ◌+◌, ◌*◌, ◌-◌, ◌<◌, ◌≤◌}
+use Prim.Native.Nat.{ℕ, zero, suc, ◌+◌, ◌*◌, ◌<◌, ◌≤◌}
 use native.Mathlib.Omega.{arith}
 use lib.Dec.{T}
 use Rattle.types.specs.declared.Step.{Step}

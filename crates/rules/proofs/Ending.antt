@@ -24,7 +24,7 @@ use Rattle.layout.specs.Create.{created}
 use Rattle.rules.specs.Sides.{other, rings, same_side}
 use Rattle.rules.specs.Looks.{door_of}
 use Rattle.rules.specs.Next.{next_at}
-use Rattle.rules.specs.Run.{World, Happening, attaches, plays, party_in, happens, run, opened}
+use Rattle.rules.specs.Run.{World, Happening, attaches, plays, party_in, happens, opened}
 use Rattle.rules.specs.Premises.{Typed, AllTyped, AllFair, down, closed_bit}
 use Rattle.rules.specs.Stretch.{moves, calling, ticks_by, OwnDoing, AllOwn}
 use Rattle.rules.specs.Claims.{last_looks, stop_turns, Follow, Fresh, reached, AtRest, EndsTicks, EndsTicksDead, Ends, SpinsWithin}

@@ -3,7 +3,7 @@ use mathlib.Core.Path.{◌≡◌, refl, sym, ap, ap₂, ◌∙◌, subst}
 use mathlib.Core.Bool.{Bool, true, false, ◌||◌}
 use mathlib.Core.List.{List, [], ◌∷◌}
 use mathlib.Core.Logic.{◌⊎◌, inl, inr, ⊎_elim}
-use Prim.Native.Nat.{ℕ, zero, suc, ◌-◌, ◌^◌, ◌<◌}
+use Prim.Native.Nat.{ℕ, zero, suc, ◌^◌, ◌<◌}
 use native.Mathlib.Omega.{arith}
 use lib.Dec.{eqb}
 use Rattle.words.specs.Le.{le_at, put_le}
@@ -29,7 +29,7 @@ use Rattle.rules.specs.Sides.{other, rings}
 use Rattle.rules.specs.Calls.{push_spec, pop_spec, close_spec, shut_spec, spurious_spec, timeout_spec}
 use Rattle.rules.specs.Next.{next_spec}
 use Rattle.rules.specs.Turn.{error_of, woke_of}
-use Rattle.rules.specs.Bench.{seat, hears, settled, played, played_leaves}
+use Rattle.rules.specs.Bench.{hears, settled, played, played_leaves}
 use Rattle.rules.specs.Run.{World, Happening, attaches, plays, party_in, takes, happens, run, opened, rung_of}
 use Rattle.rules.specs.Premises.{Typed, AllTyped, Fair, AllFair, FairTurn}
 use Rattle.rules.specs.Phase.{phase}

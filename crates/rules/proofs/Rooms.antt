@@ -12,7 +12,7 @@ use Rattle.types.specs.declared.Side.{Side}
 use Rattle.types.specs.declared.Side.TheVariants.{Sender, Recorder}
 use Rattle.types.specs.declared.Room.{Room}
 use Rattle.types.specs.declared.Room.TheVariants.{Blocked, Free}
-use Rattle.rules.specs.Sides.{used, limit}
+use Rattle.rules.specs.Sides.{limit}
 use Rattle.rules.specs.Looks.{room_of, was_blocked}
 
 -- a side with room, and one without

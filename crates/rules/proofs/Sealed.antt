@@ -19,7 +19,7 @@ use Rattle.rules.specs.Take.{stance_of, closed_after}
 use Rattle.rules.specs.Next.{next_at, next_spec}
 use Rattle.rules.specs.Access.{buffer_of}
 use Rattle.rules.specs.Turn.{error_of, woke_of}
-use Rattle.rules.specs.Run.{Note, Trace, World, Happening, attaches, party_in, takes, happens, run}
+use Rattle.rules.specs.Run.{Note, Trace, World, Happening, party_in, takes, happens, run}
 use Rattle.rules.specs.Premises.{Typed, AllTyped}
 use Rattle.rules.specs.Phase.{phase}
 use Rattle.rules.proofs.Does.{does}

@@ -24,7 +24,7 @@ use Rattle.layout.specs.Attach.{attach_answer, attach_reply, attach_leaves, atta
 use Rattle.rules.specs.Sides.{other, same_side}
 use Rattle.rules.specs.Take.{stance_of}
 use Rattle.rules.specs.Calls.{at, named, reply, ready, sound, is_sleeping, push_spec, pop_spec, close_spec, shut_spec, spurious_spec, timeout_spec}
-use Rattle.rules.specs.Bench.{seat, settled, played, played_leaves}
+use Rattle.rules.specs.Bench.{settled, played, played_leaves}
 use Rattle.rules.specs.Run.{World, Happening, attaches, plays, party_in, takes, happens, run, opened, rung_of}
 use Rattle.rules.specs.Premises.{Typed, AllTyped, Timely, FairTurnBy, FairBy, AllFair, AllLand, parting, partings}
 use Rattle.rules.specs.Stretch.{holds_epoch}
