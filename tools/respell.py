@@ -11,6 +11,9 @@ from pathlib import Path
 # these two are relations between two states
 TYPES = {"givenAt": "GivenAt", "slotGiven": "SlotGiven"}
 
+# what port.py left between two spellings: records, and a premise
+MIXED = {"Side-good": "SideGood", "Blocked-at": "BlockedAt", "Room-for": "RoomFor", "Slot-ok": "slot-ok"}
+
 NAME = re.compile(r"(?<![A-Za-z0-9_'·])[a-z][A-Za-z0-9_']*")
 HUMP = re.compile(r"(?<=[a-z0-9_])([A-Z]+)(?=[a-z0-9_'-]|\b)")
 
@@ -28,6 +31,8 @@ def main(top):
             continue
         text = path.read_text()
         turned = NAME.sub(respell, text)
+        for name, spelling in MIXED.items():
+            turned = re.sub(rf"(?<![A-Za-z0-9_'·.-]){name}(?![A-Za-z0-9_'-])", spelling, turned)
         if turned != text:
             path.write_text(turned)
             print(path.relative_to(top))

@@ -11,11 +11,10 @@ use std::process::Command;
 use tools::{executable, output};
 
 const GATE: &str = concat!(env!("CARGO_MANIFEST_DIR"), "/../.ci/run");
-const PROVED: &str = "printf 'one proved\\ntwo proved\\n7 passed, 0 failed\\n'";
+const PROVED: &str = "printf 'one proved\\nrt: ok; handles allowed: none\\n7 passed, 0 failed\\n'";
 
 /// What the tools do; each is a line of shell.
 struct Tools {
-    format: &'static str,
     stated: &'static str,
     places: &'static str,
     pictures: &'static str,
@@ -27,7 +26,6 @@ struct Tools {
 }
 
 const GOOD: Tools = Tools {
-    format: "exit 0",
     stated: "exit 0",
     places: "exit 0",
     pictures: "exit 0",
@@ -48,8 +46,8 @@ fn folder(name: &str, tools: &Tools) -> PathBuf {
     executable(&folder.join(".ci/places"), tools.places);
     executable(&folder.join("tools/pictures"), tools.pictures);
     let rt = format!(
-        "case \"$*\" in\n'fmt --check') {} ;;\nci) {} ;;\n*) exit 99 ;;\nesac",
-        tools.format, tools.prove
+        "case \"$*\" in\nci) {} ;;\n*) exit 99 ;;\nesac",
+        tools.prove
     );
     executable(&folder.join("bin/rt"), &rt);
     let cargo = format!(
@@ -96,7 +94,7 @@ fn all_passes() {
     assert!(time.starts_with("gate: 0 min "), "{time}");
     let expected = [
         "one proved",
-        "two proved",
+        "rt: ok; handles allowed: none",
         "same, 9 records in 1 scripts",
         "7 passed, 0 failed",
     ];
@@ -105,7 +103,7 @@ fn all_passes() {
 
 #[test]
 fn a_last_line_without_its_end_is_not_lost() {
-    let prove = "printf 'one proved\\n7 passed, 0 failed'";
+    let prove = "printf 'rt: ok\\n7 passed, 0 failed'";
     let (status, lines) = gate("unended", &Tools { prove, ..GOOD });
     assert_eq!(status, Some(0));
     assert_eq!(lines.last().unwrap(), "7 passed, 0 failed");
@@ -126,16 +124,65 @@ fn a_proof_that_fails_fails_the_gate() {
     failed("silent", 2, &Tools { prove, ..GOOD });
 }
 
-/// An edit that is refused where it breaks the text shows nothing of a proof.
+/// What rt says of an edit that it refused, and where.
+fn refusal(name: &str, place: &str) -> String {
+    format!("echo 'rt: must-fail {name}.edit: refused, as it must be{place}'; ")
+}
+
+/// An edit that is refused where it breaks the text, or a name, shows nothing of a proof.
 #[test]
 fn an_edit_that_no_proof_refuses_fails_the_gate() {
-    let prove = "echo 'must-fail a/b: refused, as it must be (first at proofs/A.antt:1:2; 3 s)'; \
-                 echo 'must-fail a/c: refused, as it must be (first at specs/A.antt:4:5; 6 s)'; \
+    let by_a_law = refusal("a/b", ": ./proofs/A.antt:1:2: error: `f`: the two differ");
+    let by_a_clause = refusal(
+        "a/c",
+        ": note: src/lib.rt:3:1: it is not proved that what the function ensures holds",
+    );
+    let proofs = format!("{by_a_law}{by_a_clause}");
+    let prove = format!("{proofs}{PROVED}").leak();
+    assert_eq!(gate("by-proofs", &Tools { prove, ..GOOD }).0, Some(0));
+    for (name, place) in [
+        ("specs", ": ./specs/A.antt:4:5: error: `g`: expected type"),
+        ("source", ": src/lib.rt:4:5: error: no such name"),
+        (
+            "name",
+            " (only because a proof file names what the edit took away, so this says little): \
+             ./proofs/A.antt:4:5: error: `h` is not in scope",
+        ),
+        (
+            "limit",
+            " (only by a limit of the prover, which gave no verdict): ./proofs/A.antt:4:5: error",
+        ),
+        ("nowhere", ""),
+    ] {
+        let prove = format!("{proofs}{}{PROVED}", refusal("a/d", place)).leak();
+        let lines = failed(name, 1, &Tools { prove, ..GOOD });
+        assert_eq!(lines[5], "gate: these edits are refused by no proof:");
+        assert!(lines[6].starts_with("rt: must-fail a/d"), "{}", lines[6]);
+        assert_eq!(lines.len(), 8);
+    }
+}
+
+/// rt passes an edit that it cannot apply or read, and only counts it.
+#[test]
+fn a_bad_edit_fails_the_gate() {
+    let prove = "echo 'rt: must-fail a/b.edit: BAD EDIT: it changes nothing'; \
+                 echo 'rt: ok; handles allowed: none; must-fail edits: 10 refused, 1 bad; all'; \
                  echo '7 passed, 0 failed'";
-    let lines = failed("broken", 1, &Tools { prove, ..GOOD });
-    assert_eq!(lines[2], "gate: these edits are refused by no proof:");
-    assert!(lines[3].starts_with("must-fail a/c"), "{}", lines[3]);
+    let lines = failed("bad", 1, &Tools { prove, ..GOOD });
+    assert_eq!(lines[2], "gate: these edits are bad:");
+    assert!(lines[3].starts_with("rt: must-fail a/b"), "{}", lines[3]);
     assert_eq!(lines.len(), 5);
+    let prove = "echo 'rt: ok; handles allowed: none; must-fail edits: 10 refused; all'; \
+                 echo '7 passed, 0 failed'";
+    assert_eq!(gate("none-bad", &Tools { prove, ..GOOD }).0, Some(0));
+}
+
+/// Without rt's own line nothing says that no edit is bad.
+#[test]
+fn a_gate_that_is_told_nothing_of_edits_fails() {
+    let prove = "echo one proved; echo '7 passed, 0 failed'";
+    let lines = failed("untold-edits", 1, &Tools { prove, ..GOOD });
+    assert_eq!(lines[1], "gate: rt ci has no line rt: ok");
 }
 
 /// The tests run beside the proofs: what they say is shown once the proofs have been, and nothing is
@@ -146,7 +193,7 @@ fn a_test_that_fails_says_why() {
     let lines = failed("told", 101, &Tools { tests, ..GOOD });
     let expected = [
         "one proved",
-        "two proved",
+        "rt: ok; handles allowed: none",
         "the test that failed",
         "gate: FAILED",
     ];
@@ -157,13 +204,6 @@ fn a_test_that_fails_says_why() {
 fn whatever_fails_fails_the_gate() {
     let bad = "exit 1";
     let cases = [
-        (
-            "format",
-            Tools {
-                format: bad,
-                ..GOOD
-            },
-        ),
         (
             "stated",
             Tools {

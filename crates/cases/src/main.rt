@@ -3,9 +3,11 @@
 // taken apart, a library is called, and what came of it is summed up.
 #![tactic(auto)]
 
+ghost use Rattle.std.specs.Prelude.{◌≤◌, length};
+
 mod kinds;
 
-use libc::{STDERR_FILENO, STDIN_FILENO, STDOUT_FILENO};
+use std::io::Read;
 use types::{Answer, Bench, Party, Played, Side};
 
 // No input takes as many reads: the loop ends where the input does.
@@ -24,7 +26,7 @@ const ROOM: u32 = 65536;
 
 // A case record, and how many of its bytes were read. What kind, part, tag, number and value mean goes by the kind; the
 // others are how much of region, payload and buffer is lent.
-#[derive(Drop)]
+#[derive(Clone, Copy)]
 struct Case {
     got: usize,
     kind: u8,
@@ -50,15 +52,29 @@ fn case_of(got: usize, head: u64, value: u64, sizes: u64) -> Case {
 }
 
 // The input has ended: what is left of it is a cut record.
-fn finish(got: usize) {
+fn finish(rt: &impl Eprint, got: usize) {
     if 0 < got {
-        io::write_all(STDERR_FILENO, b"cases: the last record is cut\n");
+        let _ = eprintln!(rt; "cases: the last record is cut");
     }
 }
 
-fn read_case() -> Case {
+// Reads until given is full, the input ends or a read fails, and says how many bytes came.
+fn read_full(from: &mut impl Read, given: &mut [u8]) -> usize
+    ensures { result ≤ length given.new }
+{
+    let mut got = 0;
+    while got < given.len() {
+        match from.read(&mut given[got..]) {
+            Ok(0) | Err(_) => return got,
+            Ok(n) => got += n,
+        }
+    }
+    got
+}
+
+fn read_case(from: &mut impl Read) -> Case {
     let mut given = [0xFFu8; CASE];
-    let got = io::read_full(STDIN_FILENO, &mut given);
+    let got = read_full(from, &mut given);
     case_of(
         got,
         words::load64(&given, 0),
@@ -67,23 +83,26 @@ fn read_case() -> Case {
     )
 }
 
-fn tell(answer: u64, sender: u64, recorder: u64, bytes: u64) -> bool {
+fn tell(rt: &(impl Print + Eprint), answer: u64, sender: u64, recorder: u64, bytes: u64) -> bool {
     let mut out = [0u8; REPORT];
     words::store64(&mut out, 0, answer);
     words::store64(&mut out, 8, sender);
     words::store64(&mut out, 16, recorder);
     words::store64(&mut out, 24, bytes);
-    let told = io::write_all(STDOUT_FILENO, &out);
-    if !told {
-        os::fail(b"cases: standard output");
+    match rt.write_all(&out) {
+        Ok(()) => true,
+        Err(e) => {
+            let _ = eprintln!(rt; "cases: standard output: {e}");
+            false
+        }
     }
-    told
 }
 
-fn tell_all(kind: u8, answer: Answer, both: Bench, bytes: u64) -> bool {
+fn tell_all(rt: &(impl Print + Eprint), kind: u8, answer: Answer, both: Bench, bytes: u64) -> bool {
     let sender = both.sender;
     let recorder = both.recorder;
     tell(
+        rt,
         sums::told_word(kind, answer.told()),
         sums::party_word(sender),
         sums::party_word(recorder),
@@ -92,7 +111,7 @@ fn tell_all(kind: u8, answer: Answer, both: Bench, bytes: u64) -> bool {
 }
 
 // What came of a record, with the sums of the region and of the buffer that it was lent.
-#[derive(Drop)]
+#[derive(Clone, Copy)]
 struct Came {
     played: Played,
     bytes: u64,
@@ -100,7 +119,7 @@ struct Came {
 
 // Every record has a buffer of its own, zeros before it.
 fn played(region: &mut [u8], payload: &[u8], both: Bench, c: Case) -> Came {
-    let mut buffer = io::large_buffer();
+    let mut buffer = [0u8; ROOM as usize];
     let b = reports::within(c.lent, &buffer);
     let played = kinds::play_case(region, payload, &mut buffer[..b], both, c);
     let bytes = sums::bytes_word(region, &buffer[..b]);
@@ -108,14 +127,14 @@ fn played(region: &mut [u8], payload: &[u8], both: Bench, c: Case) -> Came {
 }
 
 // False where no record is left to report, or the report cannot be written.
-fn report(c: Case, came: Came) -> bool {
+fn report(rt: &(impl Print + Eprint), c: Case, came: Came) -> bool {
     if c.got < CASE {
-        finish(c.got);
+        finish(rt, c.got);
         return false;
     }
     let s = came.played;
     let answer = s.answer;
-    tell_all(c.kind, answer, s.bench, came.bytes)
+    tell_all(rt, c.kind, answer, s.bench, came.bytes)
 }
 
 // A region of no bytes is refused, and gives the record of a party not attached.
@@ -135,18 +154,19 @@ fn opened() -> Played {
     }
 }
 
-fn main() {
+fn main(rt: HostRuntime) {
     let mut region = [0u8; REGION];
-    let mut payload = io::large_buffer();
+    let mut payload = [0u8; ROOM as usize];
+    let mut stdin = rt.stdin();
     let mut s = opened();
     let mut reads: u64 = 0;
     kinds::put(&mut payload, 0, ROOM, 0x4847_4645_4443_4241);
     while reads < READS {
-        let c = read_case();
+        let c = read_case(&mut stdin);
         let r = reports::within(c.region, &region);
         let came = played(&mut region[..r], &payload, s.bench, c);
         s = came.played;
-        if !report(c, came) {
+        if !report(&rt, c, came) {
             return;
         }
         reads += 1;

@@ -8,7 +8,7 @@ use borrow.Author.Tests.{le-leb, eq-eqb, eqb-true}
 use lib.Dec.{eqb}
 use lib.ListN.{length}
 use Rattle.types.specs.Sides.{other}
-use Rattle.types.specs.Answers.{Test, test, first_of}
+use Rattle.types.specs.Answers.{test, first_of}
 use Rattle.types.specs.declared.Side.{Side}
 use Rattle.types.specs.declared.Side.TheVariants.{Sender, Recorder}
 use Rattle.types.specs.declared.Answer.TheVariants.{Done, InvalidLayout, InvalidCapacity, InvalidSlotSize, AlreadyAttached, BadCall}
@@ -17,6 +17,8 @@ use Rattle.layout.specs.Flags.{worth, not_full_on, bit_on, set_bit, attach_mark}
 use Rattle.layout.specs.Header.{headed}
 use Rattle.layout.specs.Create.{create_answer, first_flags, created}
 use Rattle.layout.specs.Attach.{flag_checks, ring_checks, region_checks, attach_checks, fresh, attach_answer, attach_reply, attach_leaves}
+pub use Rattle.layout.specs.Whole.{size_checks}
+use Rattle.layout.specs.Whole.{AttachHeaded}
 use Rattle.layout.proofs.SizeLaws.{slot-most, power-most, ring-room}
 use Rattle.layout.proofs.Headed.{Fitting, length-headed, headed-magic, headed-version, headed-size, headed-sizes, headed-ring, headed-reserved, headed-power, headed-slot, headed-flags, headed-counter, headed-flagged}
 
@@ -28,14 +30,6 @@ spins-refused r side spins h = rw h refl
 pub spins-taken : (r : List ℕ) (side : Side) (spins : ℕ) → spins_ok spins ≡ true → attach_answer r side spins ≡ first_of (region_checks r side)
 unfolding attach_answer attach_checks
 spins-taken r side spins h = rw h refl
-
--- what is left to test of a whole header
-abbrev pub size_checks : (ring power slot flags : ℕ) → Side → List Test
-size_checks ring power slot flags side =
-    test (slot_ok slot) InvalidSlotSize
-    ∷ test (power_ok power) InvalidCapacity
-    ∷ test (eqb ring (ring_bytes power slot)) InvalidLayout
-    ∷ flag_checks flags side
 
 module _ (r : List ℕ) (ring power slot flags start : ℕ) (f : Fitting r ring power slot flags start) where
   region-headed : (side : Side) → first_of (region_checks (headed r ring power slot flags start) side) ≡ first_of (size_checks ring power slot flags side)
@@ -65,6 +59,9 @@ module _ (r : List ℕ) (ring power slot flags start : ℕ) (f : Fitting r ring 
   unfolding attach_leaves
   leaves-headed side spins e =
       rw (e, headed-flags r ring power slot flags start f) (headed-flagged r ring power slot flags start f (set_bit (worth (attach_mark side)) flags))
+
+pub headed-attach : AttachHeaded
+headed-attach r ring power slot flags start f = attach-headed r ring power slot flags start f
 
 -- what a create that is done says
 done-slot : (a b c : Bool) → first_of (test a InvalidSlotSize ∷ test b InvalidCapacity ∷ test c InvalidLayout ∷ []) ≡ Done 0 0 → (a ≡ true) × (b ≡ true) × (c ≡ true)

@@ -17,17 +17,9 @@ use Rattle.types.specs.declared.Bell.TheVariants.{NotEmpty, NotFull}
 use Rattle.layout.specs.Limits.{header_bytes}
 use Rattle.layout.specs.Header.{magic, major_at, minor_at, header_size_at, total_size_at, ring_offset_at, ring_bytes_at, arena_offset_at, arena_bytes_at, power_at, slot_size_at, flags_at, counter_at, bell_at, Field, field, fields, put_fields, blank, headed, Run, run, reserved, all_zero}
 use Rattle.layout.specs.Attach.{magic_ok, version_ok, sizes_ok}
+pub use Rattle.layout.specs.Whole.{Fitting}
 use Rattle.layout.proofs.Bools.{and_left, and_right}
 use Rattle.layout.proofs.Fields.{apart, length_fields, fields-other, fields-behind, field-read, field-anew, length-blank, blank-zero, blank-magic, blank-ring}
-
--- every value fits its field
-pub record Fitting (r : List ℕ) (ring power slot flags start : ℕ) : Type 0 where
-  pub long : length r ≡ header_bytes + ring
-  pub total-fits : header_bytes + ring < 256 ^ 8
-  pub power-fits : power < 256 ^ 1
-  pub slot-fits : slot < 256 ^ 4
-  pub flags-fits : flags < 256 ^ 4
-  pub start_fits : start < 256 ^ 8
 
 module _ (r : List ℕ) (ring power slot flags start : ℕ) (f : Fitting r ring power slot flags start) where
   abbrev table : List Field

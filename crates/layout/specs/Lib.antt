@@ -4,3 +4,4 @@ pub mod Header
 pub mod Slots
 pub mod Create
 pub mod Attach
+pub mod Whole

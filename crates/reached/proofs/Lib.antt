@@ -1,3 +1,5 @@
 pub mod Reaches
 pub mod Lasts
 pub mod Stretches
+pub mod Nights
+pub mod Amid

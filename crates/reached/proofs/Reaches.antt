@@ -37,21 +37,21 @@ use Rattle.rules.specs.Premises.{AllTyped, rung, FairTurn, Fair, AllFair}
 use Rattle.rules.specs.Stretch.{beats, Big, Wills, Willing, in_call}
 use Rattle.rules.specs.Claims.{room, Fresh, Tight}
 
-abbrev start : List ℕ
+abbrev pub start : List ℕ
 start = created (replicate 416 0) 1 16 true 0
 
 -- a turn of the sender, lent one byte, and of the recorder, lent room for one
-abbrev sends : Happening
+abbrev pub sends : Happening
 sends = plays (Turn Sender) (74 ∷ []) []
 
-abbrev records : Happening
+abbrev pub records : Happening
 records = plays (Turn Recorder) [] (0 ∷ [])
 
-abbrev pops : Happening
+abbrev pub pops : Happening
 pops = plays (Pop true 1) [] []
 
 -- neither spins; the recorder is past an empty C1, and two pushes are done
-abbrev before : List Happening
+abbrev pub before : List Happening
 before =
     attaches Sender 0 ∷ attaches Recorder 0 ∷ pops ∷ records
     ∷ plays (Push false 7 1) [] [] ∷ sends ∷ sends ∷ sends ∷ sends ∷ sends ∷ sends
@@ -62,7 +62,7 @@ abbrev ten : List Happening
 ten = records ∷ records ∷ records ∷ records ∷ records ∷ records ∷ records ∷ records ∷ pops ∷ records ∷ records ∷ []
 
 -- what is asked of the run, tested
-abbrev all_short : List Note → ℕ → Bool
+abbrev pub all_short : List Note → ℕ → Bool
 all_short [] n = true
 all_short (x ∷ xs) n = leb (length x.body) n && all_short xs n
 
@@ -82,35 +82,37 @@ calm-one (plays (Pop b l) i o) = true
 calm-one (plays (Close side) i o) = true
 calm-one (plays (Shutdown side) i o) = true
 
-abbrev calm : List Happening → World → Bool
-calm [] w = true
-calm (h ∷ hs) w = (calm-one h && ltb (rung Recorder w) (2 ^ 32)) && calm hs (happens h w)
+abbrev pub calm : (waiter : Side) → List Happening → World → Bool
+calm σ [] w = true
+calm σ (h ∷ hs) w = (calm-one h && ltb (rung σ w) (2 ^ 32)) && calm σ hs (happens h w)
 
-calm-turn : (side : Side) (w : World) → rung Recorder w < 2 ^ 32 → FairTurn Recorder side Fine w
-calm-turn Sender w h = λ u q. refl
-calm-turn Recorder w h = λ e q. h
+calm-turn : (σ side : Side) (w : World) → rung σ w < 2 ^ 32 → FairTurn σ side Fine w
+calm-turn Sender Sender w h = λ e q. h
+calm-turn Sender Recorder w h = λ u q. refl
+calm-turn Recorder Sender w h = λ u q. refl
+calm-turn Recorder Recorder w h = λ e q. h
 
-calm-fair-one : (h : Happening) (w : World) → calm-one h ≡ true → rung Recorder w < 2 ^ 32 → Fair Recorder h w
-calm-fair-one (attaches side n) w e h = tt
-calm-fair-one (plays (Turn side) i o) w e h = λ g. calm-turn side w h
-calm-fair-one (plays (Failing side f) i o) w e h = absurd (let z : ◌≡◌ {A = ℕ} 0 1 = cc in omega arith)
-calm-fair-one (plays (Spurious side) i o) w e h = tt
-calm-fair-one (plays (TimeOut side) i o) w e h = tt
-calm-fair-one (plays (Push b t l) i o) w e h = tt
-calm-fair-one (plays (Pop b l) i o) w e h = tt
-calm-fair-one (plays (Close side) i o) w e h = tt
-calm-fair-one (plays (Shutdown side) i o) w e h = tt
+calm-fair-one : (σ : Side) (h : Happening) (w : World) → calm-one h ≡ true → rung σ w < 2 ^ 32 → Fair σ h w
+calm-fair-one σ (attaches side n) w e h = tt
+calm-fair-one σ (plays (Turn side) i o) w e h = λ g. calm-turn σ side w h
+calm-fair-one σ (plays (Failing side f) i o) w e h = absurd (let z : ◌≡◌ {A = ℕ} 0 1 = cc in omega arith)
+calm-fair-one σ (plays (Spurious side) i o) w e h = tt
+calm-fair-one σ (plays (TimeOut side) i o) w e h = tt
+calm-fair-one σ (plays (Push b t l) i o) w e h = tt
+calm-fair-one σ (plays (Pop b l) i o) w e h = tt
+calm-fair-one σ (plays (Close side) i o) w e h = tt
+calm-fair-one σ (plays (Shutdown side) i o) w e h = tt
 
-calm-fair : (hs : List Happening) (w : World) → calm hs w ≡ true → AllFair Recorder hs w
-calm-fair [] w e = tt
-calm-fair (h ∷ hs) w e =
-    let one = and_left (calm-one h && ltb (rung Recorder w) (2 ^ 32)) (calm hs (happens h w)) e in (
-      calm-fair-one h w (and_left (calm-one h) _ one) (ltb-true (rung Recorder w) (2 ^ 32) (and_right (calm-one h) _ one)),
-      calm-fair hs (happens h w) (and_right (calm-one h && ltb (rung Recorder w) (2 ^ 32)) _ e),
+pub calm-fair : (σ : Side) (hs : List Happening) (w : World) → calm σ hs w ≡ true → AllFair σ hs w
+calm-fair σ [] w e = tt
+calm-fair σ (h ∷ hs) w e =
+    let one = and_left (calm-one h && ltb (rung σ w) (2 ^ 32)) (calm σ hs (happens h w)) e in (
+      calm-fair-one σ h w (and_left (calm-one h) _ one) (ltb-true (rung σ w) (2 ^ 32) (and_right (calm-one h) _ one)),
+      calm-fair σ hs (happens h w) (and_right (calm-one h && ltb (rung σ w) (2 ^ 32)) _ e),
     )
 
 -- its own turns and pops, each with a buffer long enough for any note sent
-abbrev asks-one : Happening → Bool
+abbrev pub asks-one : Happening → Bool
 asks-one (attaches side n) = false
 asks-one (plays (Turn Sender) i o) = false
 asks-one (plays (Turn Recorder) i o) = true
@@ -122,14 +124,14 @@ asks-one (plays (Pop b l) i o) = true
 asks-one (plays (Close side) i o) = false
 asks-one (plays (Shutdown side) i o) = false
 
-abbrev asks : List Happening → World → Bool
+abbrev pub asks : List Happening → World → Bool
 asks [] w = true
 asks (h ∷ hs) w = (asks-one h && all_short w.trace.sent (party_in w Recorder).length) && asks hs (happens h w)
 
-big-here : (w : World) → all_short w.trace.sent (party_in w Recorder).length ≡ true → Big Recorder w
+pub big-here : (w : World) → all_short w.trace.sent (party_in w Recorder).length ≡ true → Big Recorder w
 big-here w e = λ at n rest q. short-at w.trace.delivered n rest (party_in w Recorder).length (subst (λ (x : List Note). all_short x (party_in w Recorder).length ≡ true) q e)
 
-asks-will-one : (h : Happening) (w : World) → asks-one h ≡ true → Big Recorder w → Wills Recorder h w
+pub asks-will-one : (h : Happening) (w : World) → asks-one h ≡ true → Big Recorder w → Wills Recorder h w
 asks-will-one (attaches side n) w e h = absurd (let z : ◌≡◌ {A = ℕ} 0 1 = cc in omega arith)
 asks-will-one (plays (Turn Sender) i o) w e h = absurd (let z : ◌≡◌ {A = ℕ} 0 1 = cc in omega arith)
 asks-will-one (plays (Turn Recorder) i o) w e h = (refl, h)
@@ -141,19 +143,19 @@ asks-will-one (plays (Pop b l) i o) w e h = refl
 asks-will-one (plays (Close side) i o) w e h = absurd (let z : ◌≡◌ {A = ℕ} 0 1 = cc in omega arith)
 asks-will-one (plays (Shutdown side) i o) w e h = absurd (let z : ◌≡◌ {A = ℕ} 0 1 = cc in omega arith)
 
-asks-will : (hs : List Happening) (w : World) → asks hs w ≡ true → Willing Recorder hs w
+pub asks-will : (hs : List Happening) (w : World) → asks hs w ≡ true → Willing Recorder hs w
 asks-will [] w e = tt
 asks-will (h ∷ hs) w e =
     let now = asks-one h && all_short w.trace.sent (party_in w Recorder).length in
     let one : now ≡ true = and_left now (asks hs (happens h w)) e in
     (asks-will-one h w (and_left (asks-one h) _ one) (big-here w (and_right (asks-one h) _ one)), asks-will hs (happens h w) (and_right now _ e))
 
-abbrev made : World
+abbrev pub made : World
 made = run before (opened start)
 
 -- computed, byte by byte
 computed :
-    (create_answer 416 1 16 ≡ Done 0 0) × (calm (before ++ ten) (opened start) ≡ true) × (asks ten made ≡ true) × ((party_in made Sender).step ≡ Rest) × (in_call (party_in made Recorder).step ≡ true)
+    (create_answer 416 1 16 ≡ Done 0 0) × (calm Recorder (before ++ ten) (opened start) ≡ true) × (asks ten made ≡ true) × ((party_in made Sender).step ≡ Rest) × (in_call (party_in made Recorder).step ≡ true)
     × (room Recorder (capacity 1) made ≡ 2) × (beats ten made ≡ 10) × (room Recorder (capacity 1) (run (before ++ ten) (opened start)) ≡ 1)
 unfolding magic_ok version_ok sizes_ok flag_checks ring_checks region_checks attach_checks attach_answer attach_reply attach_leaves create_answer created blank headed power_ok slot_ok spins_ok capacity payload_capacity ring_bytes total_bytes slot_at head_of slot_bytes slot_put buffer_put value_of leaves_of buffer_of wakened settled turned played played_leaves sound ready push_spec pop_spec room_of was_blocked door_of fit_of nap_of next_spec happens run look_move copy_move publish_move check_move wake_move gate_move to_spin spin_move again_move wait_move close_move shut_move move_of take_spec goes act_spec act_leaves act_buffer turn_spec turn_leaves zeros bytes_are le_at le_bytes put_le plus minus
 computed = (refl, refl, refl, refl, refl, refl, refl, refl)
@@ -164,5 +166,5 @@ typed-here = (tt, (tt, (tt, (tt, (omega arith, (tt, (tt, (tt, (tt, (tt, (tt, (om
 pub tight : Fresh (replicate 416 0) 1 16 true 0 × Tight (replicate 416 0) 1 16 true 0
 tight = (
   (computed.0, omega arith),
-  (before, (ten, (((typed-here, (inl computed.3, (computed.4, asks-will ten made computed.2))), calm-fair (before ++ ten) (opened start) computed.1), (rw (computed.5, computed.6), computed.7)))),
+  (before, (ten, (((typed-here, (inl computed.3, (computed.4, asks-will ten made computed.2))), calm-fair Recorder (before ++ ten) (opened start) computed.1), (rw (computed.5, computed.6), computed.7)))),
 )

@@ -43,7 +43,7 @@ use Rattle.rules.proofs.Sized.{blank_of, Sized, sized-turn, sized-happens, sized
 use Rattle.rules.proofs.Real.{nth, blank, Real}
 use Rattle.reached.proofs.Lasts.{BigFine, EpochFine, before_on, big-turn, both-notes, counts-anew, epoch-on, fair-turn, stays_open, under-way}
 
-module _ (P S v : ℕ) (on : Bool) (power-ok : power_ok P ≡ true) (Slot-ok : slot_ok S ≡ true) where
+module _ (P S v : ℕ) (on : Bool) (power-ok : power_ok P ≡ true) (slot-ok : slot_ok S ≡ true) where
   record Able (side : Side) (w : World) : Type 0 where
     real : Real P S v on w
     sized : Sized w
@@ -72,13 +72,13 @@ module _ (P S v : ℕ) (on : Bool) (power-ok : power_ok P ≡ true) (Slot-ok : s
     lent = blank_of p.length
 
     g : takes w side lent lent Fine ≡ true
-    g = takes-here P S v on power-ok Slot-ok w a.real a.sized side a.here
+    g = takes-here P S v on power-ok slot-ok w a.real a.sized side a.here
 
     abbrev next : Step
-    next = next-step P S v on power-ok Slot-ok w a.real side lent lent Fine g
+    next = next-step P S v on power-ok slot-ok w a.real side lent lent Fine g
 
     abbrev after : World
-    after = after_turn P S v on power-ok Slot-ok w a.real side lent lent Fine g
+    after = after_turn P S v on power-ok slot-ok w a.real side lent lent Fine g
 
     abbrev buffer : List ℕ
     buffer = buffer_of w.region p.own (next_at s side p.counter) p.length lent
@@ -87,13 +87,13 @@ module _ (P S v : ℕ) (on : Bool) (power-ok : power_ok P ≡ true) (Slot-ok : s
     told = traced (next_at s side p.counter) p lent buffer w.trace
 
     me : party_in after side ≡ moved p s next
-    me = mover-is P S v on power-ok Slot-ok w a.real side lent lent Fine g
+    me = mover-is P S v on power-ok slot-ok w a.real side lent lent Fine g
 
     trail : after.trace ≡ told
-    trail = trace-is P S v on power-ok Slot-ok w a.real side lent lent Fine g
+    trail = trace-is P S v on power-ok slot-ok w a.real side lent lent Fine g
 
-    leads : Leads (sight P S v on power-ok Slot-ok w a.real side lent lent Fine g) s next
-    leads = leads-here P S v on power-ok Slot-ok w a.real side lent lent Fine g
+    leads : Leads (sight P S v on power-ok slot-ok w a.real side lent lent Fine g) s next
+    leads = leads-here P S v on power-ok slot-ok w a.real side lent lent Fine g
 
     epoch-after : EpochFine side after
     epoch-after e = by (epoch-on _ s next leads (rw me at e))
@@ -114,8 +114,8 @@ module _ (P S v : ℕ) (on : Bool) (power-ok : power_ok P ≡ true) (Slot-ok : s
     able-after : Able side after
     able-after =
         record {
-          real = subst (Real P S v on) (turn-is-after P S v on power-ok Slot-ok w a.real side lent lent Fine g) (real-turned P S v on power-ok Slot-ok w a.real side lent lent Fine);
-          sized = subst Sized (turn-is-after P S v on power-ok Slot-ok w a.real side lent lent Fine g) (sized-turn w side lent lent Fine a.sized);
+          real = subst (Real P S v on) (turn-is-after P S v on power-ok slot-ok w a.real side lent lent Fine g) (real-turned P S v on power-ok slot-ok w a.real side lent lent Fine);
+          sized = subst Sized (turn-is-after P S v on power-ok slot-ok w a.real side lent lent Fine g) (sized-turn w side lent lent Fine a.sized);
           here = ap (λ (q : Party). q.own.attached) me ∙ a.here;
           open-still = ap (λ (q : Party). q.closed) me ∙ stays_open s a.calls p.closed ∙ a.open-still;
           calls = rw me (calls-on _ s next leads a.calls);
@@ -132,11 +132,11 @@ module _ (P S v : ℕ) (on : Bool) (power-ok : power_ok P ≡ true) (Slot-ok : s
           fair = λ h. fair-turn side w a.epoch-fine;
           wills = (refl, big-turn side w a.big-fine);
           count = rw (g, move);
-          able = subst (Able side) (sym (turn-is-after P S v on power-ok Slot-ok w a.real side lent lent Fine g)) able-after;
+          able = subst (Able side) (sym (turn-is-after P S v on power-ok slot-ok w a.real side lent lent Fine g)) able-after;
         }
 
     is-sound : sound side p ≡ true
-    is-sound = sound-here P S v on power-ok Slot-ok w a.real a.sized side a.here
+    is-sound = sound-here P S v on power-ok slot-ok w a.real a.sized side a.here
 
     is-ready : s ≡ Rest → ready side p ≡ true
     unfolding ready
@@ -160,7 +160,7 @@ module _ (P S v : ℕ) (on : Bool) (power-ok : power_ok P ≡ true) (Slot-ok : s
           count = refl;
           able =
               record {
-                real = real-happens P S v on power-ok Slot-ok (plays (Spurious side) [] []) w tt a.real;
+                real = real-happens P S v on power-ok slot-ok (plays (Spurious side) [] []) w tt a.real;
                 sized = sized-happens (plays (Spurious side) [] []) w a.sized;
                 here = ap (λ (x : Party). x.own.attached) seat-is ∙ a.here;
                 open-still = ap (λ (x : Party). x.closed) seat-is ∙ a.open-still;
@@ -226,7 +226,7 @@ module _ (P S v : ℕ) (on : Bool) (power-ok : power_ok P ≡ true) (Slot-ok : s
         count = ask-count side w;
         able =
             record {
-              real = real-happens P S v on power-ok Slot-ok (ask side) w (ask-typed side) a.real;
+              real = real-happens P S v on power-ok slot-ok (ask side) w (ask-typed side) a.real;
               sized = sized-happens (ask side) w a.sized;
               here = ap (λ (x : Party). x.own.attached) party-is ∙ a.here;
               open-still = ap (λ (x : Party). x.closed) party-is ∙ a.open-still;

@@ -12,7 +12,7 @@ use Rattle.layout.specs.Limits.{payload_capacity}
 use Rattle.layout.specs.Create.{created}
 use Rattle.rules.specs.Calls.{sound, ready, push_spec, pop_spec, close_spec, shut_spec}
 use Rattle.rules.specs.Run.{opened}
-use Rattle.rules.specs.Claims.{PushBegins, PopBegins, CloseBegins, ShutBegins, Fresh, reached, Sound}
+use Rattle.rules.specs.Claims.{PushBegins, PopBegins, CloseBegins, ShutBegins, PushBeginsAs, PopBeginsAs, CloseBeginsAs, ShutBeginsAs, Fresh, reached, Sound}
 use Rattle.rules.proofs.RealRun.{power-fits, slot-fits, real-reached}
 use Rattle.rules.proofs.Sized.{sized-run, sized-start, sound-here}
 
@@ -35,6 +35,19 @@ close-begins side p h e c = rw (is-ready side p h e, c)
 pub shut-begins : (side : Side) (p : Party) → ShutBegins side p
 unfolding shut_spec
 shut-begins side p h e = rw (is-ready side p h e)
+
+-- and the record that it then is, field by field
+pub push-begins-as : (p : Party) → PushBeginsAs p
+push-begins-as p = push-begins p
+
+pub pop-begins-as : (p : Party) → PopBeginsAs p
+pop-begins-as p = pop-begins p
+
+pub close-begins-as : (side : Side) (p : Party) → CloseBeginsAs side p
+close-begins-as side p = close-begins side p
+
+pub shut-begins-as : (side : Side) (p : Party) → ShutBeginsAs side p
+shut-begins-as side p = shut-begins side p
 
 module _ (r : List ℕ) (P S : ℕ) (on : Bool) (v : ℕ) (fresh : Fresh r P S on v) where
   pub always-sound : (side : Side) → Sound r P S on v side

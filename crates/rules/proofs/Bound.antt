@@ -75,7 +75,7 @@ pub by-calling : Count calling
 by-calling = record { all = moves-call; none-at-rest = refl }
 
 -- one turn: by the room, and by whether it counts. Where a sleeper's turns count, one with room does not sleep
-turn-cost : (counted : Stance → Bool) → Count counted → (g : Sight) (k : ℕ) → g.room ≡ k → (n : ℕ) (s next : Step) → Leads g s next → Kind s → Calls (phase s) → (s ≡ Rest → next ≡ Rest) → (s ≡ Asleep → next ≡ Asleep)
+pub turn-cost : (counted : Stance → Bool) → Count counted → (g : Sight) (k : ℕ) → (0 < k → 0 < g.room) → (n : ℕ) (s next : Step) → Leads g s next → Kind s → Calls (phase s) → (s ≡ Rest → next ≡ Rest) → (s ≡ Asleep → next ≡ Asleep)
     → (counted Sleeping ≡ true → 0 < k → s ≡ Asleep → ⊥) → (0 < k → s ≡ Copy → next ≡ Rest → ⊥) → cost s k g.theirs ≤ pick (counted (stance_of s)) 1 0 + n → cost next (own_room s k) (room_by s g.theirs) ≤ n
 turn-cost counted count g zero u n s next leads kind c i a j f h = omega (arith, cost-zero s next (room_by s g.theirs))
 turn-cost counted count g (suc k) u n s next leads rests c i a j f h =
@@ -88,7 +88,7 @@ turn-cost counted count g (suc k) u n s next leads dreams c i a j f h = rw (a re
     by false e = let l : cost Asleep (suc k) g.theirs ≤ 0 + n = rw e at h in omega arith
 turn-cost counted count g (suc k) u n s next leads (acts move) c i a j f h =
     let l : cost s (suc k) g.theirs ≤ 1 + n = rw (count.all (stance_of s) move) at h in
-    omega (arith, fall g k u s next leads c (moves-off s Rest move refl) (moves-off s Asleep move refl) (f (omega arith)))
+    omega (arith, fall g k (u (omega arith)) s next leads c (moves-off s Rest move refl) (moves-off s Asleep move refl) (f (omega arith)))
 
 -- a turn changes its own party's notes alone
 module _ (p : Party) (payload buffer : List ℕ) (t : Trace) where
@@ -148,8 +148,8 @@ has-cause (suc k) z h = tt
 module _ (P S v : ℕ) (on : Bool) where
   -- a stretch under way: the other owes nothing, the party is in a call or between calls, so many turns are left to it at
   -- most, and the other's notes are what they were
-  pub record Stint (side : Side) (notes : List Note) (n : ℕ) (w : World) : Type 0 where
-    pub quiet : duty (other side) (party_in w (other side)).step ≡ none
+  pub record Stint (heed : Bool) (side : Side) (notes : List Note) (n : ℕ) (w : World) : Type 0 where
+    pub quiet : heed ≡ true → duty (other side) (party_in w (other side)).step ≡ none
     pub calls : Calls (phase (party_in w side).step)
     pub left : cost (party_in w side).step (room_in P S v on side w.trace) (room_in P S v on (other side) w.trace) ≤ n
     pub same : notes_of (other side) w.trace ≡ notes
@@ -158,7 +158,7 @@ module _ (P S v : ℕ) (on : Bool) where
   abbrev pub Awake : (counted : Stance → Bool) → Side → World → Type 0
   Awake counted side w = counted Sleeping ≡ true → 0 < room_in P S v on side w.trace → (party_in w side).step ≡ Asleep → ⊥
 
-  module _ (power-ok : power_ok P ≡ true) (Slot-ok : slot_ok S ≡ true) (w : World) (real : Real P S v on w) (side : Side) (payload lent : List ℕ) (fault : Fault) where
+  module _ (power-ok : power_ok P ≡ true) (slot-ok : slot_ok S ≡ true) (w : World) (real : Real P S v on w) (side : Side) (payload lent : List ℕ) (fault : Fault) where
     abbrev p : Party
     p = party_in w side
 
@@ -173,18 +173,18 @@ module _ (P S v : ℕ) (on : Bool) where
 
     module _ (g : takes w side payload lent fault ≡ true) where
       abbrev next : Step
-      next = next-step P S v on power-ok Slot-ok w real side payload lent fault g
+      next = next-step P S v on power-ok slot-ok w real side payload lent fault g
 
       abbrev after : World
-      after = after_turn P S v on power-ok Slot-ok w real side payload lent fault g
+      after = after_turn P S v on power-ok slot-ok w real side payload lent fault g
 
       abbrev value : ℕ
       value = value_of w.region p.own (next_spec p)
 
       pub none_after : room_in P S v on side t ≡ 0 → room_in P S v on side after.trace ≡ 0
-      none_after h = room_after P S v on power-ok Slot-ok w real side payload lent fault g ∙ ap (own_room s) h ∙ own-room-none s
+      none_after h = room_after P S v on power-ok slot-ok w real side payload lent fault g ∙ ap (own_room s) h ∙ own-room-none s
 
-      stays-at-rest : s ≡ Rest → next ≡ Rest
+      pub stays-at-rest : s ≡ Rest → next ≡ Rest
       unfolding move_of
       stays-at-rest e = ap (λ (u : Step). step_after (move_at u p.own p.counter p.blocking p.length value (error_of fault)) u) e
 
@@ -192,37 +192,37 @@ module _ (P S v : ℕ) (on : Bool) where
       unfolding move_of
       dreams-on e = ap (λ (u : Step). step_after (move_at u p.own p.counter p.blocking p.length value (error_of fault)) u) e
 
-      fits-here : Big side w → s ≡ Copy → next ≡ Rest → ⊥
+      pub fits-here : Big side w → s ≡ Copy → next ≡ Rest → ⊥
       unfolding move_of
       fits-here big e q =
-          no-spill P S v on power-ok Slot-ok w real side value (own_is P S v on power-ok Slot-ok w real side payload lent fault g) (counter-is P S v on power-ok Slot-ok w real side payload lent fault g)
-          (ap (value_of w.region p.own) (access-is P S v on power-ok Slot-ok w real side payload lent fault g ∙ ap (λ (u : Step). next_at u side p.counter) e))
+          no-spill P S v on power-ok slot-ok w real side value (own_is P S v on power-ok slot-ok w real side payload lent fault g) (counter-is P S v on power-ok slot-ok w real side payload lent fault g)
+          (ap (value_of w.region p.own) (access-is P S v on power-ok slot-ok w real side payload lent fault g ∙ ap (λ (u : Step). next_at u side p.counter) e))
           (subst (λ (u : Step). HasRoom (phase u) k) e (real.sides side).room) e big
           (sym (ap (λ (u : Step). step_after (move_at u p.own p.counter p.blocking p.length value (error_of fault)) u) e) ∙ q)
 
-      going-taken : (counted : Stance → Bool) → Count counted → (notes : List Note) (n : ℕ) → Big side w → Awake counted side w → Stint side notes (pick (counted (stance_of s)) 1 0 + n) w → Stint side notes n after
-      going-taken counted count notes n big awake go =
-          let leads = leads-here P S v on power-ok Slot-ok w real side payload lent fault g in
-          let me = mover-is P S v on power-ok Slot-ok w real side payload lent fault g in
-          let them = waiter-is P S v on power-ok Slot-ok w real side payload lent fault g in
-          let trail = trace-is P S v on power-ok Slot-ok w real side payload lent fault g in
+      going-taken : (heed : Bool) (counted : Stance → Bool) → Count counted → (notes : List Note) (n : ℕ) → Big side w → Awake counted side w → Stint heed side notes (pick (counted (stance_of s)) 1 0 + n) w → Stint heed side notes n after
+      going-taken heed counted count notes n big awake go =
+          let leads = leads-here P S v on power-ok slot-ok w real side payload lent fault g in
+          let me = mover-is P S v on power-ok slot-ok w real side payload lent fault g in
+          let them = waiter-is P S v on power-ok slot-ok w real side payload lent fault g in
+          let trail = trace-is P S v on power-ok slot-ok w real side payload lent fault g in
           let buffer = buffer_of w.region p.own (next_at s side p.counter) p.length lent in
           record {
-            quiet = ap (λ (q : Party). duty (other side) q.step) them ∙ duty-kept P S v on power-ok Slot-ok w real side payload lent fault g ∙ go.quiet;
+            quiet = λ h. ap (λ (q : Party). duty (other side) q.step) them ∙ duty-kept P S v on power-ok slot-ok w real side payload lent fault g ∙ go.quiet h;
             calls = rw me (calls-on _ s next leads go.calls);
-            left = rw (me, room_after P S v on power-ok Slot-ok w real side payload lent fault g, other-room-after P S v on power-ok Slot-ok w real side payload lent fault g)
-                (turn-cost counted count _ k refl n s next leads (kind s) go.calls stays-at-rest dreams-on awake (λ h. fits-here big) go.left);
+            left = rw (me, room_after P S v on power-ok slot-ok w real side payload lent fault g, other-room-after P S v on power-ok slot-ok w real side payload lent fault g)
+                (turn-cost counted count _ k (λ l. l) n s next leads (kind s) go.calls stays-at-rest dreams-on awake (λ h. fits-here big) go.left);
             same = ap (notes_of (other side)) trail ∙ notes-kept p payload buffer t side p.counter s (next_at s side p.counter) (does side p.counter s) ∙ go.same;
           }
 
-    pub going-turned : (counted : Stance → Bool) → Count counted → (notes : List Note) (n : ℕ) → Big side w → Awake counted side w → Stint side notes (counts_by counted w side payload lent fault + n) w → Stint side notes n (turn_world w side payload lent fault)
-    going-turned counted count notes n big awake go = by (takes w side payload lent fault) refl
+    pub going-turned : (heed : Bool) (counted : Stance → Bool) → Count counted → (notes : List Note) (n : ℕ) → Big side w → Awake counted side w → Stint heed side notes (counts_by counted w side payload lent fault + n) w → Stint heed side notes n (turn_world w side payload lent fault)
+    going-turned heed counted count notes n big awake go = by (takes w side payload lent fault) refl
       where
-        by : (b : Bool) → takes w side payload lent fault ≡ b → Stint side notes n (turn_world w side payload lent fault)
+        by : (b : Bool) → takes w side payload lent fault ≡ b → Stint heed side notes n (turn_world w side payload lent fault)
         by true g =
-            subst (Stint side notes n) (sym (turn-is-after P S v on power-ok Slot-ok w real side payload lent fault g))
-            (going-taken g counted count notes n big awake (subst (λ (b : Bool). Stint side notes (pick (b && counted (stance_of s)) 1 0 + n) w) g go))
+            subst (Stint heed side notes n) (sym (turn-is-after P S v on power-ok slot-ok w real side payload lent fault g))
+            (going-taken g heed counted count notes n big awake (subst (λ (b : Bool). Stint heed side notes (pick (b && counted (stance_of s)) 1 0 + n) w) g go))
         by false g =
             let e : 0 + n ≡ n = omega arith in
-            subst (Stint side notes n) (sym (turn-refused w side payload lent fault g))
-            (subst (λ (m : ℕ). Stint side notes m w) e (subst (λ (b : Bool). Stint side notes (pick (b && counted (stance_of s)) 1 0 + n) w) g go))
+            subst (Stint heed side notes n) (sym (turn-refused w side payload lent fault g))
+            (subst (λ (m : ℕ). Stint heed side notes m w) e (subst (λ (b : Bool). Stint heed side notes (pick (b && counted (stance_of s)) 1 0 + n) w) g go))

@@ -27,7 +27,7 @@ use Rattle.rules.specs.Phase.{phase}
 use Rattle.rules.proofs.FitLaws.{fit-good}
 use Rattle.rules.proofs.Real.{sizes, nth, note_head, HoldsAt, InHand, Fixed}
 
-module _ (P S v : ℕ) (on : Bool) (power-ok : power_ok P ≡ true) (Slot-ok : slot_ok S ≡ true) (r : List ℕ) (fixed : Fixed P S v on r) (t : Trace) where
+module _ (P S v : ℕ) (on : Bool) (power-ok : power_ok P ≡ true) (slot-ok : slot_ok S ≡ true) (r : List ℕ) (fixed : Fixed P S v on r) (t : Trace) where
   slot-in : (c : ℕ) → slot_at P S c + S ≤ length r
   slot-in c = omega (arith, slot-within P power-ok S c, fixed.long)
 
@@ -37,8 +37,8 @@ module _ (P S v : ℕ) (on : Bool) (power-ok : power_ok P ≡ true) (Slot-ok : s
   unfolding leaves_of
   copy_written own c tag payload o e g f =
       rw (o, e) record {
-        head = put-head r (slot_at P S (plus 64 v (length t.sent))) S tag payload (slot-in (plus 64 v (length t.sent))) (payload-in S Slot-ok (length payload) f) (payload-short S Slot-ok (length payload) f) g;
-        payload = put_payload r (slot_at P S (plus 64 v (length t.sent))) S tag payload (slot-in (plus 64 v (length t.sent))) (payload-in S Slot-ok (length payload) f);
+        head = put-head r (slot_at P S (plus 64 v (length t.sent))) S tag payload (slot-in (plus 64 v (length t.sent))) (payload-in S slot-ok (length payload) f) (payload-short S slot-ok (length payload) f) g;
+        payload = put_payload r (slot_at P S (plus 64 v (length t.sent))) S tag payload (slot-in (plus 64 v (length t.sent))) (payload-in S slot-ok (length payload) f);
         body-fits = f;
       }
 
@@ -58,7 +58,7 @@ module _ (P S v : ℕ) (on : Bool) (power-ok : power_ok P ≡ true) (Slot-ok : s
     head-is = ap (λ (s : List ℕ). head_of (head_word s)) slot_is ∙ holds.head
 
     -- what a copy that fits leaves in the buffer
-    filled : (named : ℕ) (lent : List ℕ) → fit_of (note_head n) (payload_capacity own.slot) named ≡ Fits → buffer_of r own (ReadSlot c) named lent ≡ n.body ++ drop (length n.body) lent
+    pub filled : (named : ℕ) (lent : List ℕ) → fit_of (note_head n) (payload_capacity own.slot) named ≡ Fits → buffer_of r own (ReadSlot c) named lent ≡ n.body ++ drop (length n.body) lent
     unfolding value_of buffer_of buffer_put
     filled named lent g = rw (head-is, g, slot_is, holds.payload)
 

@@ -1,12 +1,12 @@
 -- The turns that are left to a store: the cost falls by one at each.
 use mathlib.Core.Path.{◌≡◌, refl}
-use Prim.Native.Nat.{ℕ, zero, suc, ◌+◌, ◌*◌, ◌≤◌}
+use Prim.Native.Nat.{ℕ, zero, suc, ◌+◌, ◌*◌, ◌<◌, ◌≤◌}
 use native.Mathlib.Omega.{arith}
 use lib.Dec.{T}
 use Rattle.types.specs.declared.Step.{Step}
 use Rattle.types.specs.declared.Step.TheVariants.{Rest, Look, Copy, Publish, Check, Raise, Wake, Gate, Spin, Epoch, Again, GateAgain, Wait, Asleep, LastLook, CloseSet, CloseRaise, CloseWake, ShutSet, ShutRaiseNe, ShutWakeNe, ShutRaiseNf, ShutWakeNf}
 use Rattle.rules.specs.Take.{stance_of}
-use Rattle.rules.specs.Stretch.{in_call_at}
+use Rattle.rules.specs.Stretch.{in_call_at, slack}
 use Rattle.rules.specs.Phase.{Phase, phase}
 use Rattle.rules.proofs.Does.{less, own_after}
 use Rattle.rules.proofs.Leads.{Sight, Onward, straight, around, asks, Leads, idles, finds, blocks, gives_up, copies, spills, tells, stores, owes, passes, raises, wakes, enters, stops, finds-spin, spins, reads, finds-again, stays, enters-again, stops-again, returns, ends, dreams, glances, glances-again, times-out, finds-last, finds-none, closes, closes-alone, close-raises, close-wakes, shuts, shut-raises, shut-wakes, shut-raises-again, shut-wakes-again, sleeps as falls-asleep}
@@ -48,7 +48,7 @@ abbrev pub cost : Step → (k x : ℕ) → ℕ
 cost s zero x = 0
 cost s (suc k) x = 4 * k + 1 + ahead s x
 
-extra-le : (x : ℕ) → extra x ≤ 2
+pub extra-le : (x : ℕ) → extra x ≤ 2
 extra-le zero = omega arith
 extra-le (suc x) = omega arith
 
@@ -76,6 +76,45 @@ ahead-le (ShutRaiseNe c) x h g = omega arith
 ahead-le (ShutWakeNe c) x h g = omega arith
 ahead-le (ShutRaiseNf c f) x h g = omega arith
 ahead-le (ShutWakeNf c f) x h g = omega arith
+
+ahead-most : (s : Step) (x m : ℕ) → 4 + extra x ≤ m → 3 + extra (less x) ≤ m → ahead s x ≤ m
+ahead-most Rest x m h g = omega arith
+ahead-most Look x m h g = omega arith
+ahead-most Copy x m h g = omega arith
+ahead-most (Publish l t) x m h g = omega arith
+ahead-most (Check l t) x m h g = omega arith
+ahead-most (Raise l t) x m h g = omega arith
+ahead-most (Wake l t) x m h g = omega arith
+ahead-most Gate x m h g = omega arith
+ahead-most (Spin n) x m h g = omega arith
+ahead-most Epoch x m h g = omega arith
+ahead-most (Again e) x m h g = omega arith
+ahead-most (GateAgain e) x m h g = omega arith
+ahead-most (Wait e) x m h g = omega arith
+ahead-most Asleep x m h g = omega arith
+ahead-most (LastLook c) x m h g = omega arith
+ahead-most CloseSet x m h g = omega arith
+ahead-most CloseRaise x m h g = omega arith
+ahead-most CloseWake x m h g = omega arith
+ahead-most (ShutSet c) x m h g = omega arith
+ahead-most (ShutRaiseNe c) x m h g = omega arith
+ahead-most (ShutWakeNe c) x m h g = omega arith
+ahead-most (ShutRaiseNf c f) x m h g = omega arith
+ahead-most (ShutWakeNf c f) x m h g = omega arith
+
+pub ahead-slack : (s : Step) (x : ℕ) → ahead s x ≤ 3 + slack x
+ahead-slack s zero = ahead-most s zero 6 (omega arith) (omega arith)
+ahead-slack s (suc zero) = ahead-most s 1 5 (omega arith) (omega arith)
+ahead-slack s (suc (suc x)) = ahead-most s (suc (suc x)) 4 (omega arith) (omega arith)
+
+pub slack-most : (x : ℕ) → slack x ≤ 3
+slack-most zero = omega arith
+slack-most (suc zero) = omega arith
+slack-most (suc (suc x)) = omega arith
+
+pub cost-slack : (s : Step) (k x : ℕ) → cost s k x ≤ 4 * k + slack x
+cost-slack s zero x = omega arith
+cost-slack s (suc k) x = omega (arith, ahead-slack s x)
 
 pub cost-le : (s : Step) (k x : ℕ) → cost s k x ≤ 4 * k + 3
 cost-le s zero x = omega arith
@@ -117,7 +156,7 @@ ahead-on n t x straight = omega arith
 ahead-on n t x (around m) = omega arith
 
 -- with room, a turn of a call takes one off the cost, where a pop's copy fits
-pub fall : (g : Sight) (k : ℕ) → g.room ≡ suc k → (s next : Step) → Leads g s next → Calls (phase s) → (s ≡ Rest → ⊥) → (s ≡ Asleep → ⊥) → (s ≡ Copy → next ≡ Rest → ⊥)
+pub fall : (g : Sight) (k : ℕ) → 0 < g.room → (s next : Step) → Leads g s next → Calls (phase s) → (s ≡ Rest → ⊥) → (s ≡ Asleep → ⊥) → (s ≡ Copy → next ≡ Rest → ⊥)
     → suc (cost next (own_room s (suc k)) (room_by s g.theirs)) ≤ cost s (suc k) g.theirs
 fall g k e s next idles c i j f = absurd (i refl)
 fall g k e s next (finds h) c i j f = omega arith

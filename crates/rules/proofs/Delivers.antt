@@ -8,6 +8,7 @@ use lib.Dec.{eqb}
 use lib.ListN.{length, take}
 use lib.Seq.{length-take-le}
 use Rattle.types.specs.Pick.{pick}
+use Rattle.types.specs.declared.Side.{Side}
 use Rattle.types.specs.declared.Side.TheVariants.{Recorder}
 use Rattle.types.specs.declared.Own.{Own}
 use Rattle.types.specs.declared.Party.{Party}
@@ -68,10 +69,10 @@ module _ (P S v : ℕ) (on : Bool) (r : List ℕ) (p : Party) (payload buffer : 
   carries s (checks {l = l} {t = g}) e h = (h.1.0, (record { tag = g; body = take l t.buffer }, (h.1.1, (refl, (length-take-le l t.buffer h.0, refl)))))
   carries s (wakes {l = l} {t = g}) e h = (h.1.0, (record { tag = g; body = take l t.buffer }, (h.1.1, (refl, (length-take-le l t.buffer h.0, refl)))))
 
-turn-happens : (payload lent : List ℕ) (fault : Fault) (w : World) → happens (plays (turn_of Recorder fault) payload lent) w ≡ turn_world w Recorder payload lent fault
+pub turn-happens : (side : Side) (payload lent : List ℕ) (fault : Fault) (w : World) → happens (plays (turn_of side fault) payload lent) w ≡ turn_world w side payload lent fault
 unfolding happens played played_leaves settled
-turn-happens payload lent Fine w = refl
-turn-happens payload lent (Error e) w = refl
+turn-happens side payload lent Fine w = refl
+turn-happens side payload lent (Error e) w = refl
 
 module _ (r : List ℕ) (P S : ℕ) (on : Bool) (v : ℕ) (fresh : Fresh r P S on v) where
   pub done-carries : DoneCarries r P S on v
@@ -81,7 +82,7 @@ module _ (r : List ℕ) (P S : ℕ) (on : Bool) (v : ℕ) (fresh : Fresh r P S o
       let p = party_in w Recorder in
       let real = real-reached r P S on v fresh hs typed in
       let power-ok = power-fits r P S on v fresh in
-      let Slot-ok = slot-fits r P S on v fresh in
+      let slot-ok = slot-fits r P S on v fresh in
       let value = value_of w.region p.own (next_spec p) in
       let a : answer_of (move_at p.step p.own p.counter p.blocking p.length value (error_of fault)) ≡ Done l t =
       sym (ap (λ (x : Turned). x.answer) (turn_is Recorder w.region p payload lent fault g)) ∙ e in
@@ -89,7 +90,7 @@ module _ (r : List ℕ) (P S : ℕ) (on : Bool) (v : ℕ) (fresh : Fresh r P S o
       let buffer = buffer_of w.region p.own (next_at p.step Recorder p.counter) p.length lent in
       let held = carries P S v on w.region p payload buffer w.trace p.step d refl (real.sides Recorder).hand in
       let last : (happens (plays (turn_of Recorder fault) payload lent) w).trace ≡ traced (next_at p.step Recorder p.counter) p payload buffer w.trace =
-      ap (λ (u : World). u.trace) (turn-happens payload lent fault w ∙ turn-is-after P S v on power-ok Slot-ok w real Recorder payload lent fault g) ∙ trace-is P S v on power-ok Slot-ok w real Recorder payload lent fault g in
+      ap (λ (u : World). u.trace) (turn-happens Recorder payload lent fault w ∙ turn-is-after P S v on power-ok slot-ok w real Recorder payload lent fault g) ∙ trace-is P S v on power-ok slot-ok w real Recorder payload lent fault g in
       subst (Carries l t) (sym last) (rw (← n.0, ← n.1) held)
 
   -- where nothing waits, all that was sent has been delivered

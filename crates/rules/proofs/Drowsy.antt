@@ -41,7 +41,7 @@ use Rattle.rules.proofs.Real.{room_in, Real}
 use Rattle.rules.proofs.Exactly.{exactly}
 use Rattle.rules.proofs.UntilSleep.{drowse, nap-step, near-sleep, to_sleep, wait-bell, wait-stores-none}
 
-module _ (P S v : ℕ) (on : Bool) (power-ok : power_ok P ≡ true) (Slot-ok : slot_ok S ≡ true) where
+module _ (P S v : ℕ) (on : Bool) (power-ok : power_ok P ≡ true) (slot-ok : slot_ok S ≡ true) where
   abbrev bell : Side → World → ℕ
   bell side w = le_at 4 w.region (bell_at (sleep_bell side))
 
@@ -61,26 +61,26 @@ module _ (P S v : ℕ) (on : Bool) (power-ok : power_ok P ≡ true) (Slot-ok : s
     s = p.step
 
     abbrev next : Step
-    next = next-step P S v on power-ok Slot-ok w d.real side payload lent Fine g
+    next = next-step P S v on power-ok slot-ok w d.real side payload lent Fine g
 
     abbrev after : World
-    after = after_turn P S v on power-ok Slot-ok w d.real side payload lent Fine g
+    after = after_turn P S v on power-ok slot-ok w d.real side payload lent Fine g
 
     abbrev a : Access
     a = next_at s side p.counter
 
     me : party_in after side ≡ moved p s next
-    me = mover-is P S v on power-ok Slot-ok w d.real side payload lent Fine g
+    me = mover-is P S v on power-ok slot-ok w d.real side payload lent Fine g
 
     naps-here : (e : ℕ) → s ≡ Wait e → next ≡ pick (eqb (bell side w) e) Asleep Look
     unfolding move_of value_of
     naps-here e q =
         let value = value_of w.region p.own (next_spec p) in
-        let at : value ≡ bell side w = ap (value_of w.region p.own) (access-is P S v on power-ok Slot-ok w d.real side payload lent Fine g ∙ ap (λ (u : Step). next_at u side p.counter) q) in
+        let at : value ≡ bell side w = ap (value_of w.region p.own) (access-is P S v on power-ok slot-ok w d.real side payload lent Fine g ∙ ap (λ (u : Step). next_at u side p.counter) q) in
         ap (λ (u : Step). step_after (move_at u p.own p.counter p.blocking p.length value 0) u) q ∙ nap-step p.own value e ∙ ap (λ (u : ℕ). pick (eqb u e) Asleep Look) at
 
     drowses : (in_wait next ≡ true) × (to_sleep (bell side w) p.own.spins next ≡ less (to_sleep (bell side w) p.own.spins s))
-    drowses = drowse _ d.room (d.real.sides side).bell-small (open-door _ (stop-barred side (le_at 4 w.region flags_at) ∙ d.clear)) d.blocking s next (leads-here P S v on power-ok Slot-ok w d.real side payload lent Fine g) d.waits naps-here
+    drowses = drowse _ d.room (d.real.sides side).bell-small (open-door _ (stop-barred side (le_at 4 w.region flags_at) ∙ d.clear)) d.blocking s next (leads-here P S v on power-ok slot-ok w d.real side payload lent Fine g) d.waits naps-here
 
     bell-same : bell side after ≡ bell side w
     unfolding after_turn
@@ -90,9 +90,9 @@ module _ (P S v : ℕ) (on : Bool) (power-ok : power_ok P ≡ true) (Slot-ok : s
     drowsy-after : Drowsy side (less n) after
     drowsy-after =
         record {
-          real = real-after P S v on power-ok Slot-ok w d.real side payload lent Fine g;
-          room = none_after P S v on power-ok Slot-ok w d.real side payload lent Fine g d.room;
-          clear = ap (stop_at side) (flags-same P S v on power-ok Slot-ok w d.real side payload lent Fine g (wait-stores-none s d.waits)) ∙ d.clear;
+          real = real-after P S v on power-ok slot-ok w d.real side payload lent Fine g;
+          room = none_after P S v on power-ok slot-ok w d.real side payload lent Fine g d.room;
+          clear = ap (stop_at side) (flags-same P S v on power-ok slot-ok w d.real side payload lent Fine g (wait-stores-none s d.waits)) ∙ d.clear;
           blocking = ap (λ (q : Party). q.blocking) me ∙ d.blocking;
           waits = rw me drowses.0;
           left = rw (me, bell-same) (drowses.1 ∙ ap less d.left);
@@ -106,7 +106,7 @@ module _ (P S v : ℕ) (on : Bool) (power-ok : power_ok P ≡ true) (Slot-ok : s
       (λ e. let u : 0 ≡ suc n = sym (ap (to_sleep (bell side w) (party_in w side).own.spins) e) ∙ d.left in omega arith)
 
   turn : (side : Side) (n : ℕ) (w : World) → Drowsy side (suc n) w → (payload lent : List ℕ) → takes w side payload lent Fine ≡ true → Drowsy side n (turn_world w side payload lent Fine)
-  turn side n w d payload lent g = subst (Drowsy side n) (sym (turn-is-after P S v on power-ok Slot-ok w d.real side payload lent Fine g)) (drowsy-after side w (suc n) d payload lent g)
+  turn side n w d payload lent g = subst (Drowsy side n) (sym (turn-is-after P S v on power-ok slot-ok w d.real side payload lent Fine g)) (drowsy-after side w (suc n) d payload lent g)
 
   slept : (side : Side) (w : World) → Drowsy side 0 w → (party_in w side).step ≡ Asleep
   slept side w d = (near-sleep (bell side w) (party_in w side).own.spins (party_in w side).step).slept d.waits (omega (arith, d.left))
@@ -127,11 +127,11 @@ module _ (r : List ℕ) (P S : ℕ) (on : Bool) (v : ℕ) (fresh : Fresh r P S o
       let w = reached r P S on v hs in
       let b = le_at 4 w.region (bell_at (sleep_bell side)) in
       let power-ok = power-fits r P S on v fresh in
-      let Slot-ok = slot-fits r P S on v fresh in
+      let slot-ok = slot-fits r P S on v fresh in
       let s = (party_in w side).step in
       let a = (party_in w side).own.spins in
       let real = real-reached r P S on v fresh hs t in
-      let start : Drowsy P S v on power-ok Slot-ok side (to_sleep b a s) w =
+      let start : Drowsy P S v on power-ok slot-ok side (to_sleep b a s) w =
       record { real = real; room = sym (room-is r P S on v fresh side hs t) ∙ none; clear = clear-flags _ _ up other-up; blocking = mode; waits = waits; left = refl } in (
         to_sleep b a s,
         (
@@ -141,8 +141,8 @@ module _ (r : List ℕ) (P S : ℕ) (on : Bool) (v : ℕ) (fresh : Fresh r P S o
             (
               λ e. from-stale b a e s,
               λ ms turns long.
-                  let done = exactly side (Drowsy P S v on power-ok Slot-ok side) (moving P S v on power-ok Slot-ok side) (turn P S v on power-ok Slot-ok side) ms w turns (to_sleep b a s) start long in
-                  (done.0, (done.1.0, (done.1.1.0, (done.1.1.1.0, subst (λ (u : World). (party_in u side).step ≡ Asleep) (sym (run-parts hs done.0 (opened (created r P S on v)))) (slept P S v on power-ok Slot-ok side (run done.0 w) done.1.1.1.1))))),
+                  let done = exactly side (Drowsy P S v on power-ok slot-ok side) (moving P S v on power-ok slot-ok side) (turn P S v on power-ok slot-ok side) ms w turns (to_sleep b a s) start long in
+                  (done.0, (done.1.0, (done.1.1.0, (done.1.1.1.0, subst (λ (u : World). (party_in u side).step ≡ Asleep) (sym (run-parts hs done.0 (opened (created r P S on v)))) (slept P S v on power-ok slot-ok side (run done.0 w) done.1.1.1.1))))),
             ),
           ),
         ),

@@ -53,7 +53,7 @@ idle-good s n k z d glances = tt
 idle-good s n k z d closes = tt
 idle-good s n k z d shuts = tt
 
-idle-duty : (side : Side) (s : Step) → Idle s → duty side s ≡ none
+pub idle-duty : (side : Side) (s : Step) → Idle s → duty side s ≡ none
 idle-duty side s rests = refl
 idle-duty side s looks = refl
 idle-duty side s glances = refl
@@ -108,15 +108,15 @@ module _ (P S v : ℕ) (on : Bool) where
   called-other w side q (inr b) false y = rw (seat-two side w.bench q) y
 
   -- an attach: whoever joins is at rest, and no flag that stops anybody changes
-  stop-kept : (side mover : Side) (f : ℕ) → f < reserved_from → stop_at side (set_bit (worth (attach_mark mover)) f) ≡ stop_at side f
+  pub stop-kept : (side mover : Side) (f : ℕ) → f < reserved_from → stop_at side (set_bit (worth (attach_mark mover)) f) ≡ stop_at side f
   stop-kept Sender Sender f h = ap₂ ◌||◌ (mark_set (attach_mark Sender) f h ShutMark) (mark_set (attach_mark Sender) f h (close_mark Recorder))
   stop-kept Sender Recorder f h = ap₂ ◌||◌ (mark_set (attach_mark Recorder) f h ShutMark) (mark_set (attach_mark Recorder) f h (close_mark Recorder))
   stop-kept Recorder Sender f h = ap₂ ◌||◌ (mark_set (attach_mark Sender) f h ShutMark) (mark_set (attach_mark Sender) f h (close_mark Sender))
   stop-kept Recorder Recorder f h = ap₂ ◌||◌ (mark_set (attach_mark Recorder) f h ShutMark) (mark_set (attach_mark Recorder) f h (close_mark Sender))
 
-  module _ (power-ok : power_ok P ≡ true) (Slot-ok : slot_ok S ≡ true) (w : World) (real : Real P S v on w) (side : Side) (spins : ℕ) where
+  module _ (power-ok : power_ok P ≡ true) (slot-ok : slot_ok S ≡ true) (w : World) (real : Real P S v on w) (side : Side) (spins : ℕ) where
     abbrev joined : World
-    joined = attach_world P S v on power-ok Slot-ok w real side spins
+    joined = attach_world P S v on power-ok slot-ok w real side spins
 
     pub attached-own : (h : Bool) → ReadyAt P S v on h side (other side) w → ReadyAt P S v on h side (other side) joined
     unfolding attach_leaves attach_reply
@@ -135,7 +135,7 @@ module _ (P S v : ℕ) (on : Bool) where
         empty e = ((real.sides side).seat.empty (sym (real.sides side).seat.attached-bit ∙ bit-clear w.region side spins e)).0
 
         flags-now : le_at 4 (put_le 4 w.region flags_at (set_bit (worth (attach_mark side)) (le_at 4 w.region flags_at))) flags_at ≡ set_bit (worth (attach_mark side)) (le_at 4 w.region flags_at)
-        flags-now = attach-flags P S v on power-ok Slot-ok w real side
+        flags-now = attach-flags P S v on power-ok slot-ok w real side
 
         by : (b : Bool) → eqb (number (attach_answer w.region side spins)) 0 ≡ b → (h : Bool) → ReadyAt P S v on h (other side) side w → ReadyAt P S v on h (other side) side joined
         by false e h y = rw e y
@@ -145,19 +145,19 @@ module _ (P S v : ℕ) (on : Bool) where
         by true e false y = rw (e, seat-two side w.bench (attached w.region side spins)) y
 
   -- a turn, taken or refused
-  module _ (power-ok : power_ok P ≡ true) (Slot-ok : slot_ok S ≡ true) (w : World) (real : Real P S v on w) (side : Side) where
+  module _ (power-ok : power_ok P ≡ true) (slot-ok : slot_ok S ≡ true) (w : World) (real : Real P S v on w) (side : Side) where
     lands_here : (payload lent : List ℕ) (fault : Fault) (g : takes w side payload lent fault ≡ true)
         → (hears (other side) (woke_of (next_spec (party_in w side)) 0) ≡ true → (party_in w (other side)).step ≡ Asleep → error_of fault ≡ 0)
         → wakes_at side (party_in w side).step ≡ true → (party_in w (other side)).step ≡ Asleep → error_of fault ≡ 0
     lands_here payload lent fault g f u =
-        f (ap (λ (x : Access). hears (other side) (woke_of x 0)) (access-is P S v on power-ok Slot-ok w real side payload lent fault g) ∙ heard-by side (party_in w side).counter 0 (party_in w side).step ∙ rw u)
+        f (ap (λ (x : Access). hears (other side) (woke_of x 0)) (access-is P S v on power-ok slot-ok w real side payload lent fault g) ∙ heard-by side (party_in w side).counter 0 (party_in w side).step ∙ rw u)
 
     pub turned-own : (payload lent : List ℕ) (fault : Fault) → (takes w side payload lent fault ≡ true → (e : ℕ) → (party_in w side).step ≡ Wait e → rung_of side w.trace < 2 ^ 32)
         → (h : Bool) → ReadyAt P S v on h side (other side) w → ReadyAt P S v on h side (other side) (turn_world w side payload lent fault)
     turned-own payload lent fault f h y = by (takes w side payload lent fault) refl
       where
         by : (b : Bool) → takes w side payload lent fault ≡ b → ReadyAt P S v on h side (other side) (turn_world w side payload lent fault)
-        by true g = subst (ReadyAt P S v on h side (other side)) (sym (turn-is-after P S v on power-ok Slot-ok w real side payload lent fault g)) (ready-own P S v on power-ok Slot-ok w real side payload lent fault g h (f g) y)
+        by true g = subst (ReadyAt P S v on h side (other side)) (sym (turn-is-after P S v on power-ok slot-ok w real side payload lent fault g)) (ready-own P S v on power-ok slot-ok w real side payload lent fault g h (f g) y)
         by false g = subst (ReadyAt P S v on h side (other side)) (sym (turn-refused w side payload lent fault g)) y
 
     pub turned-other : (payload lent : List ℕ) (fault : Fault)
@@ -167,15 +167,15 @@ module _ (P S v : ℕ) (on : Bool) where
       where
         by : (b : Bool) → takes w side payload lent fault ≡ b → ReadyAt P S v on h (other side) side (turn_world w side payload lent fault)
         by true g =
-            subst (ReadyAt P S v on h (other side) side) (sym (turn-is-after P S v on power-ok Slot-ok w real side payload lent fault g))
-            (ready-other P S v on power-ok Slot-ok w real side payload lent fault g h r (lands_here payload lent fault g (f g)) y)
+            subst (ReadyAt P S v on h (other side) side) (sym (turn-is-after P S v on power-ok slot-ok w real side payload lent fault g))
+            (ready-other P S v on power-ok slot-ok w real side payload lent fault g h r (lands_here payload lent fault g (f g)) y)
         by false g = subst (ReadyAt P S v on h (other side) side) (sym (turn-refused w side payload lent fault g)) y
 
   -- what a side relies on, kept by whatever happens
   abbrev pub Ready : Side → World → Type 0
   Ready σ w = ReadyAt P S v on (rings (other σ) on) σ (other σ) w
 
-  module _ (power-ok : power_ok P ≡ true) (Slot-ok : slot_ok S ≡ true) where
+  module _ (power-ok : power_ok P ≡ true) (slot-ok : slot_ok S ≡ true) where
     called-ready : (w : World) → Real P S v on w → (σ side : Side) (q : Party) → Changed side (party_in w side) q → Ready σ w → Ready σ (seated P S v on w side q)
     called-ready w real Sender Sender q c y = called-own w real Sender q c (rings Recorder on) refl y
     called-ready w real Sender Recorder q c y = called-other w Recorder q c (rings Recorder on) y
@@ -184,16 +184,16 @@ module _ (P S v : ℕ) (on : Bool) where
 
     turned-ready : (w : World) → Real P S v on w → (σ side : Side) (payload lent : List ℕ) (fault : Fault) → (takes w side payload lent fault ≡ true → FairTurn σ side fault w)
         → Ready σ w → Ready σ (turn_world w side payload lent fault)
-    turned-ready w real Sender Sender payload lent fault f y = turned-own power-ok Slot-ok w real Sender payload lent fault f (rings Recorder on) y
-    turned-ready w real Sender Recorder payload lent fault f y = turned-other power-ok Slot-ok w real Recorder payload lent fault f (rings Recorder on) refl y
-    turned-ready w real Recorder Sender payload lent fault f y = turned-other power-ok Slot-ok w real Sender payload lent fault f true refl y
-    turned-ready w real Recorder Recorder payload lent fault f y = turned-own power-ok Slot-ok w real Recorder payload lent fault f true y
+    turned-ready w real Sender Sender payload lent fault f y = turned-own power-ok slot-ok w real Sender payload lent fault f (rings Recorder on) y
+    turned-ready w real Sender Recorder payload lent fault f y = turned-other power-ok slot-ok w real Recorder payload lent fault f (rings Recorder on) refl y
+    turned-ready w real Recorder Sender payload lent fault f y = turned-other power-ok slot-ok w real Sender payload lent fault f true refl y
+    turned-ready w real Recorder Recorder payload lent fault f y = turned-own power-ok slot-ok w real Recorder payload lent fault f true y
 
-    attached-ready : (w : World) (real : Real P S v on w) (σ side : Side) (spins : ℕ) → Ready σ w → Ready σ (attach_world P S v on power-ok Slot-ok w real side spins)
-    attached-ready w real Sender Sender spins y = attached-own power-ok Slot-ok w real Sender spins (rings Recorder on) y
-    attached-ready w real Sender Recorder spins y = attached-other power-ok Slot-ok w real Recorder spins (rings Recorder on) y
-    attached-ready w real Recorder Sender spins y = attached-other power-ok Slot-ok w real Sender spins true y
-    attached-ready w real Recorder Recorder spins y = attached-own power-ok Slot-ok w real Recorder spins true y
+    attached-ready : (w : World) (real : Real P S v on w) (σ side : Side) (spins : ℕ) → Ready σ w → Ready σ (attach_world P S v on power-ok slot-ok w real side spins)
+    attached-ready w real Sender Sender spins y = attached-own power-ok slot-ok w real Sender spins (rings Recorder on) y
+    attached-ready w real Sender Recorder spins y = attached-other power-ok slot-ok w real Recorder spins (rings Recorder on) y
+    attached-ready w real Recorder Sender spins y = attached-other power-ok slot-ok w real Sender spins true y
+    attached-ready w real Recorder Recorder spins y = attached-own power-ok slot-ok w real Recorder spins true y
 
     pub ready-happens : (σ : Side) (h : Happening) (w : World) → Typed h → Fair σ h w → Real P S v on w → Ready σ w → Ready σ (happens h w)
     unfolding happens played played_leaves settled
@@ -211,7 +211,7 @@ module _ (P S v : ℕ) (on : Bool) where
     unfolding run
     ready-run σ [] w t f real y = y
     ready-run σ (h ∷ hs) w t f real y =
-        ready-run σ hs (happens h w) t.1 f.1 (real-happens P S v on power-ok Slot-ok h w t.0 real) (ready-happens σ h w t.0 f.0 real y)
+        ready-run σ hs (happens h w) t.1 f.1 (real-happens P S v on power-ok slot-ok h w t.0 real) (ready-happens σ h w t.0 f.0 real y)
 
   pub ready-start : (σ : Side) (region : List ℕ) → Ready σ (opened region)
   ready-start Sender region = by (rings Recorder on)

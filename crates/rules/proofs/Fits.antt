@@ -26,24 +26,24 @@ use Rattle.rules.proofs.FitLaws.{fit_is, copy-by}
 use Rattle.rules.proofs.Copies.{head-is}
 use Rattle.rules.proofs.Real.{count_of, sizes, room_in, nth, blank, note_head, Real}
 
-module _ (P S v : ℕ) (on : Bool) (power-ok : power_ok P ≡ true) (Slot-ok : slot_ok S ≡ true) (w : World) (real : Real P S v on w) where
+module _ (P S v : ℕ) (on : Bool) (power-ok : power_ok P ≡ true) (slot-ok : slot_ok S ≡ true) (w : World) (real : Real P S v on w) where
   abbrev t : Trace
   t = w.trace
 
   -- the note that a pop comes to is the first that waits
-  first-waits : 0 < room_in P S v on Recorder t → t.sent ≡ t.delivered ++ (nth t.sent (length t.delivered) ∷ drop (suc (length t.delivered)) t.sent)
+  pub first-waits : 0 < room_in P S v on Recorder t → t.sent ≡ t.delivered ++ (nth t.sent (length t.delivered) ∷ drop (suc (length t.delivered)) t.sent)
   first-waits h =
       sym (take-append-drop (length t.delivered) t.sent)
       ∙ ap (λ (x : List Note). x ++ drop (length t.delivered) t.sent) (sym real.queue.order)
       ∙ ap (λ (x : List Note). t.delivered ++ x) (drop-cons t.sent (length t.delivered) blank (omega arith))
 
-  good-fit : (own : Own) (c named : ℕ) → own ≡ sizes P S v on Recorder own.spins → c ≡ plus 64 v (length t.delivered) → 0 < room_in P S v on Recorder t
+  pub good-fit : (own : Own) (c named : ℕ) → own ≡ sizes P S v on Recorder own.spins → c ≡ plus 64 v (length t.delivered) → 0 < room_in P S v on Recorder t
       → ((n : Note) (rest : List Note) → t.sent ≡ t.delivered ++ (n ∷ rest) → length n.body ≤ named)
       → fit_of (head_of (value_of w.region own (slot_access Recorder c))) (payload_capacity own.slot) named ≡ Fits
   good-fit own c named o e h big =
       let n : Note = nth t.sent (length t.delivered) in
       let holds = real.queue.ring (length t.delivered) (omega arith) (omega arith) in
-      rw (head-is P S v on power-ok Slot-ok w.region real.fixed t own c o e n holds, o)
+      rw (head-is P S v on power-ok slot-ok w.region real.fixed t own c o e n holds, o)
       (fit_is (note_head n) (payload_capacity S) named holds.body-fits (omega arith) refl (big n _ (first-waits h)))
 
   pub no-spill : (σ : Side) (val : ℕ) → (party_in w σ).own ≡ sizes P S v on σ (party_in w σ).own.spins → (party_in w σ).counter ≡ plus 64 v (count_of σ t)

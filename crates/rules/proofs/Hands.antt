@@ -57,7 +57,7 @@ module _ (P S v : ℕ) (on : Bool) where
   in-hand-none Recorder glancing r t h = tt
   in-hand-none Recorder leaving r t h = tt
 
-module _ (P S v : ℕ) (on : Bool) (power-ok : power_ok P ≡ true) (Slot-ok : slot_ok S ≡ true) (r : List ℕ) (p : Party) (payload : List ℕ) (fixed : Fixed P S v on r)
+module _ (P S v : ℕ) (on : Bool) (power-ok : power_ok P ≡ true) (slot-ok : slot_ok S ≡ true) (r : List ℕ) (p : Party) (payload : List ℕ) (fixed : Fixed P S v on r)
     (t : Trace) (buffer : List ℕ) (queue : Queue P S v on r t) where
   abbrev left : Access → List ℕ
   left a = leaves_of r p.own a p.tag payload
@@ -74,27 +74,27 @@ module _ (P S v : ℕ) (on : Bool) (power-ok : power_ok P ≡ true) (Slot-ok : s
 
   pub queue-kept : (side : Side) (s : Step) (a : Access) → p.step ≡ s → p.own ≡ sizes P S v on side p.own.spins → p.counter ≡ plus 64 v (count_of side t) → Does side p.counter s a
       → Fits side s → HasRoom (phase s) (room_in P S v on side t) → InHand P S v on side (phase s) r t → Queue P S v on (left a) (told a)
-  queue-kept side s a at o c (nothing q) f h x = queue-quiet P S v on power-ok Slot-ok r p payload fixed t buffer queue a (λ i. tt) refl refl
-  queue-kept side s a at o c (looks q) f h x = queue-quiet P S v on power-ok Slot-ok r p payload fixed t buffer queue a (λ i. tt) refl refl
-  queue-kept side s a at o c (flags q) f h x = queue-quiet P S v on power-ok Slot-ok r p payload fixed t buffer queue a (λ i. tt) refl refl
-  queue-kept Sender s a at o c epoch f h x = queue-quiet P S v on power-ok Slot-ok r p payload fixed t buffer queue a (λ i. tt) refl refl
-  queue-kept Recorder s a at o c epoch f h x = queue-quiet P S v on power-ok Slot-ok r p payload fixed t buffer queue a (λ i. tt) refl refl
+  queue-kept side s a at o c (nothing q) f h x = queue-quiet P S v on power-ok slot-ok r p payload fixed t buffer queue a (λ i. tt) refl refl
+  queue-kept side s a at o c (looks q) f h x = queue-quiet P S v on power-ok slot-ok r p payload fixed t buffer queue a (λ i. tt) refl refl
+  queue-kept side s a at o c (flags q) f h x = queue-quiet P S v on power-ok slot-ok r p payload fixed t buffer queue a (λ i. tt) refl refl
+  queue-kept Sender s a at o c epoch f h x = queue-quiet P S v on power-ok slot-ok r p payload fixed t buffer queue a (λ i. tt) refl refl
+  queue-kept Recorder s a at o c epoch f h x = queue-quiet P S v on power-ok slot-ok r p payload fixed t buffer queue a (λ i. tt) refl refl
   queue-kept Sender s a at o c (writes q) f h x =
-      queue-still P S v on power-ok Slot-ok r p payload fixed t buffer queue (left a) (told a) refl refl
-      (λ i n k l. holds_kept P S v on power-ok Slot-ok r p payload fixed i n a
-      (written-elsewhere P S v on power-ok Slot-ok r p payload fixed p.counter i (length t.sent) o c l (omega (arith, sender-room h)) (f refl refl)))
+      queue-still P S v on power-ok slot-ok r p payload fixed t buffer queue (left a) (told a) refl refl
+      (λ i n k l. holds_kept P S v on power-ok slot-ok r p payload fixed i n a
+      (written-elsewhere P S v on power-ok slot-ok r p payload fixed p.counter i (length t.sent) o c l (omega (arith, sender-room h)) (f refl refl)))
   queue-kept Recorder s a at o c (writes q) f h x = absurd (let z : ◌≡◌ {A = ℕ} 0 1 = cc in omega arith)
-  queue-kept side s a at o c (takes q) f h x = queue-quiet P S v on power-ok Slot-ok r p payload fixed t buffer queue a (λ i. tt) refl refl
-  queue-kept Sender s a at o c store f h x = queue-sent P S v on power-ok Slot-ok r p payload fixed t buffer queue (next 64 p.counter) (sender-room h) x
+  queue-kept side s a at o c (takes q) f h x = queue-quiet P S v on power-ok slot-ok r p payload fixed t buffer queue a (λ i. tt) refl refl
+  queue-kept Sender s a at o c store f h x = queue-sent P S v on power-ok slot-ok r p payload fixed t buffer queue (next 64 p.counter) (sender-room h) x
   queue-kept Recorder s a at o c (store {l = l} {t = g}) f h x =
-      rw (ap carried at) (queue-got P S v on power-ok Slot-ok r p payload fixed t buffer queue (next 64 p.counter) (record { length = l; tag = g })
+      rw (ap carried at) (queue-got P S v on power-ok slot-ok r p payload fixed t buffer queue (next 64 p.counter) (record { length = l; tag = g })
       (ap (λ (u : Step). published Recorder (carried u) t) (sym at)) (omega arith) x.1)
-  queue-kept side s a at o c (ring q NotEmpty) f h x = queue-quiet P S v on power-ok Slot-ok r p payload fixed t buffer queue a (λ i. tt) refl refl
-  queue-kept side s a at o c (ring q NotFull) f h x = queue-quiet P S v on power-ok Slot-ok r p payload fixed t buffer queue a (λ i. tt) refl refl
-  queue-kept side s a at o c close f h x = queue-quiet P S v on power-ok Slot-ok r p payload fixed t buffer queue a (λ i. tt) refl refl
-  queue-kept side s a at o c shut f h x = queue-quiet P S v on power-ok Slot-ok r p payload fixed t buffer queue a (λ i. tt) refl refl
-  queue-kept side s a at o c wait f h x = queue-quiet P S v on power-ok Slot-ok r p payload fixed t buffer queue a (λ i. tt) refl refl
-  queue-kept side s a at o c (wake q b m) f h x = queue-quiet P S v on power-ok Slot-ok r p payload fixed t buffer queue a (λ i. tt) refl refl
+  queue-kept side s a at o c (ring q NotEmpty) f h x = queue-quiet P S v on power-ok slot-ok r p payload fixed t buffer queue a (λ i. tt) refl refl
+  queue-kept side s a at o c (ring q NotFull) f h x = queue-quiet P S v on power-ok slot-ok r p payload fixed t buffer queue a (λ i. tt) refl refl
+  queue-kept side s a at o c close f h x = queue-quiet P S v on power-ok slot-ok r p payload fixed t buffer queue a (λ i. tt) refl refl
+  queue-kept side s a at o c shut f h x = queue-quiet P S v on power-ok slot-ok r p payload fixed t buffer queue a (λ i. tt) refl refl
+  queue-kept side s a at o c wait f h x = queue-quiet P S v on power-ok slot-ok r p payload fixed t buffer queue a (λ i. tt) refl refl
+  queue-kept side s a at o c (wake q b m) f h x = queue-quiet P S v on power-ok slot-ok r p payload fixed t buffer queue a (λ i. tt) refl refl
 
   -- the other's room is at least what it was
   pub room-other : (side : Side) (s : Step) (ph : Phase) → HasRoom (phase s) (room_in P S v on side t) → HasRoom ph (room_in P S v on (other side) t)
@@ -239,19 +239,19 @@ module _ (P S v : ℕ) (on : Bool) (power-ok : power_ok P ≡ true) (Slot-ok : s
     slots : (i : ℕ) (n : Note) → HoldsAt P S v on r i n → HoldsAt P S v on (left a) i n
 
   recorder-keeps : (s : Step) (a : Access) → Does Recorder p.counter s a → RecorderKeeps a
-  recorder-keeps s a (nothing q) = record { sent = refl; hand = refl; slots = λ i n. holds_kept P S v on power-ok Slot-ok r p payload fixed i n a tt }
-  recorder-keeps s a (looks q) = record { sent = refl; hand = refl; slots = λ i n. holds_kept P S v on power-ok Slot-ok r p payload fixed i n a tt }
-  recorder-keeps s a (flags q) = record { sent = refl; hand = refl; slots = λ i n. holds_kept P S v on power-ok Slot-ok r p payload fixed i n a tt }
-  recorder-keeps s a epoch = record { sent = refl; hand = refl; slots = λ i n. holds_kept P S v on power-ok Slot-ok r p payload fixed i n a tt }
+  recorder-keeps s a (nothing q) = record { sent = refl; hand = refl; slots = λ i n. holds_kept P S v on power-ok slot-ok r p payload fixed i n a tt }
+  recorder-keeps s a (looks q) = record { sent = refl; hand = refl; slots = λ i n. holds_kept P S v on power-ok slot-ok r p payload fixed i n a tt }
+  recorder-keeps s a (flags q) = record { sent = refl; hand = refl; slots = λ i n. holds_kept P S v on power-ok slot-ok r p payload fixed i n a tt }
+  recorder-keeps s a epoch = record { sent = refl; hand = refl; slots = λ i n. holds_kept P S v on power-ok slot-ok r p payload fixed i n a tt }
   recorder-keeps s a (writes q) = absurd (let z : ◌≡◌ {A = ℕ} 0 1 = cc in omega arith)
-  recorder-keeps s a (takes q) = record { sent = refl; hand = refl; slots = λ i n. holds_kept P S v on power-ok Slot-ok r p payload fixed i n a tt }
-  recorder-keeps s a store = record { sent = refl; hand = refl; slots = λ i n. holds_kept P S v on power-ok Slot-ok r p payload fixed i n a tt }
-  recorder-keeps s a (ring q NotEmpty) = record { sent = refl; hand = refl; slots = λ i n. holds_kept P S v on power-ok Slot-ok r p payload fixed i n a tt }
-  recorder-keeps s a (ring q NotFull) = record { sent = refl; hand = refl; slots = λ i n. holds_kept P S v on power-ok Slot-ok r p payload fixed i n a tt }
-  recorder-keeps s a close = record { sent = refl; hand = refl; slots = λ i n. holds_kept P S v on power-ok Slot-ok r p payload fixed i n a tt }
-  recorder-keeps s a shut = record { sent = refl; hand = refl; slots = λ i n. holds_kept P S v on power-ok Slot-ok r p payload fixed i n a tt }
-  recorder-keeps s a wait = record { sent = refl; hand = refl; slots = λ i n. holds_kept P S v on power-ok Slot-ok r p payload fixed i n a tt }
-  recorder-keeps s a (wake q b m) = record { sent = refl; hand = refl; slots = λ i n. holds_kept P S v on power-ok Slot-ok r p payload fixed i n a tt }
+  recorder-keeps s a (takes q) = record { sent = refl; hand = refl; slots = λ i n. holds_kept P S v on power-ok slot-ok r p payload fixed i n a tt }
+  recorder-keeps s a store = record { sent = refl; hand = refl; slots = λ i n. holds_kept P S v on power-ok slot-ok r p payload fixed i n a tt }
+  recorder-keeps s a (ring q NotEmpty) = record { sent = refl; hand = refl; slots = λ i n. holds_kept P S v on power-ok slot-ok r p payload fixed i n a tt }
+  recorder-keeps s a (ring q NotFull) = record { sent = refl; hand = refl; slots = λ i n. holds_kept P S v on power-ok slot-ok r p payload fixed i n a tt }
+  recorder-keeps s a close = record { sent = refl; hand = refl; slots = λ i n. holds_kept P S v on power-ok slot-ok r p payload fixed i n a tt }
+  recorder-keeps s a shut = record { sent = refl; hand = refl; slots = λ i n. holds_kept P S v on power-ok slot-ok r p payload fixed i n a tt }
+  recorder-keeps s a wait = record { sent = refl; hand = refl; slots = λ i n. holds_kept P S v on power-ok slot-ok r p payload fixed i n a tt }
+  recorder-keeps s a (wake q b m) = record { sent = refl; hand = refl; slots = λ i n. holds_kept P S v on power-ok slot-ok r p payload fixed i n a tt }
 
   recorder-hand : (u : Trace) → SenderKeeps u → (ph : Phase) → HasRoom ph (room_in P S v on Recorder t) → InHand P S v on Recorder ph r t → (r' : List ℕ) → InHand P S v on Recorder ph r' u
   recorder-hand u k resting h y r' = tt

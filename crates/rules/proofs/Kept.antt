@@ -59,7 +59,7 @@ flags_by-option (WaitBell b e) f h = refl
 flags_by-option (WakeBell b n) f h = refl
 
 -- a flag that is up stays up
-mark-up : (n : Mark) (f : ℕ) → f < reserved_from → (m : Mark) → bit_on (worth m) f ≡ true → bit_on (worth m) (set_bit (worth n) f) ≡ true
+pub mark-up : (n : Mark) (f : ℕ) → f < reserved_from → (m : Mark) → bit_on (worth m) f ≡ true → bit_on (worth m) (set_bit (worth n) f) ≡ true
 mark-up n f h m e = mark_set n f h m ∙ by (same_mark m n)
   where
     by : (b : Bool) → pick b true (bit_on (worth m) f) ≡ true

@@ -9,29 +9,30 @@ use Rattle.types.specs.declared.Side.TheVariants.{Recorder}
 use Rattle.types.specs.declared.Party.{Party}
 use Rattle.types.specs.declared.Turned.{Turned}
 use Rattle.types.specs.declared.Fault.{Fault}
+use Rattle.types.specs.declared.Bell.TheVariants.{NotFull}
 use Rattle.types.specs.declared.Fit.{Fit}
 use Rattle.types.specs.declared.Fit.TheVariants.{Bad, Small}
 use Rattle.types.specs.declared.Stance.{Stance}
 use Rattle.types.specs.declared.Stance.TheVariants.{Resting, Sleeping}
 use Rattle.types.specs.declared.Step.{Step}
-use Rattle.types.specs.declared.Step.TheVariants.{Rest, Look, Copy, Gate, GateAgain, Asleep, LastLook}
+use Rattle.types.specs.declared.Step.TheVariants.{Rest, Look, Copy, Wake, Gate, GateAgain, Wait, Asleep, LastLook, CloseWake, ShutWakeNf}
 use Rattle.types.specs.declared.Move.{Move}
 use Rattle.types.specs.declared.Move.TheVariants.{Still, To, End}
 use Rattle.types.specs.declared.Woke.TheVariants.{Nobody}
 use Rattle.types.specs.declared.Answer.{Answer}
 use Rattle.types.specs.declared.Answer.TheVariants.{Done, InvalidMagic, UnsupportedVersion, InvalidHeaderSize, InvalidLayout, InvalidCapacity, InvalidSlotSize, CorruptIndices, CorruptSlot, Full, Empty, Closed, Shutdown, Timeout, WouldBlock, OutputTooSmall, AlreadyAttached, Syscall, PayloadTooLong, NotFullOff, BadCall, Nothing, Begun, GoesOn}
 use Rattle.types.specs.declared.Access.{Access}
-use Rattle.types.specs.declared.Access.TheVariants.{None, LoadCounter, LoadFlags, ReadSlot}
+use Rattle.types.specs.declared.Access.TheVariants.{None, LoadCounter, LoadFlags, ReadSlot, WaitBell, WakeBell}
 use Rattle.layout.specs.Limits.{payload_capacity}
 use Rattle.layout.specs.Slots.{head_word, head_of}
-use Rattle.rules.specs.Sides.{other}
+use Rattle.rules.specs.Sides.{other, ring_bell, sleep_bell}
 use Rattle.rules.specs.Looks.{fit_of}
 use Rattle.rules.specs.Take.{stance_of, answer_of, step_after, closed_after, counter_after, move_of, take_spec}
-use Rattle.rules.specs.Next.{slot_access, next_at, next_spec}
+use Rattle.rules.specs.Next.{one, all, slot_access, next_at, next_spec}
 use Rattle.rules.specs.Access.{slot_of, value_of, leaves_of, copied_out, buffer_of}
 use Rattle.rules.specs.Turn.{error_of, taken, woke_of, act_spec, act_leaves, act_buffer, turn_spec, turn_leaves, turn_buffer}
 use Rattle.rules.specs.Given.{EndsWith, published, checked, woke, closed-alone, closed, shut, corrupt, bad-slot, too_small, full, empty, left, left-again, none_left, down, down-again, timed-out, wake-failed, close-failed, wait-failed, shut-failed, shut-failed-last, resting, asleep, goes_on, turn}
-use Rattle.rules.specs.Leaves.{Leaves}
+use Rattle.rules.specs.Leaves.{LeavesKept}
 use Rattle.rules.proofs.Answered.{ends-only}
 
 -- a party after a turn, by its stance and its move alone
@@ -55,7 +56,7 @@ unfolding made
 still-sleeps p = refl
 
 -- an answer that ends a call
-abbrev settles : Answer → Bool
+abbrev pub settles : Answer → Bool
 settles (Done l t) = true
 settles InvalidMagic = true
 settles UnsupportedVersion = true
@@ -107,7 +108,7 @@ module _ (side : Side) (r : List ℕ) (p : Party) (i o : List ℕ) (f : Fault) (
   party-is = ap (λ (t : Turned). t.party) turn_is
 
   -- a settled turn leaves its party at rest
-  turn-rests : {x : Answer} → EndsWith p value (error_of f) x → settles x ≡ true → (turn_spec side r p i o f).party.step ≡ Rest
+  pub turn-rests : {x : Answer} → EndsWith p value (error_of f) x → settles x ≡ true → (turn_spec side r p i o f).party.step ≡ Rest
   unfolding made
   turn-rests {x} row t = ap (λ (q : Party). q.step) party-is ∙ rests-by (move_of p value (error_of f)) p.step x (ends-only row) t
 
@@ -139,7 +140,7 @@ module _ (side : Side) (r : List ℕ) (p : Party) (i o : List ℕ) (f : Fault) (
       let e : fit_of (head_of (head_word (slot_of r p.own p.counter))) (payload_capacity p.own.slot) p.length ≡ t = rw n at h in
       looks-kept (ReadSlot p.counter) n refl (rw e c)
 
-  pub ends-leaves : {x : Answer} → EndsWith p value (error_of f) x → Leaves x (turn side r p i o f)
+  pub ends-leaves : {x : Answer} → EndsWith p value (error_of f) x → LeavesKept x (turn side r p i o f)
   unfolding leaves_of buffer_of move_of
   ends-leaves (published s q) = turn-rests (published s q) refl
   ends-leaves (checked s b) = turn-rests (checked s b) refl
@@ -147,7 +148,7 @@ module _ (side : Side) (r : List ℕ) (p : Party) (i o : List ℕ) (f : Fault) (
   ends-leaves (closed-alone s q) = turn-rests (closed-alone s q) refl
   ends-leaves (closed s z) = turn-rests (closed s z) refl
   ends-leaves (shut s a z) = turn-rests (shut s a z) refl
-  ends-leaves (corrupt s) = turn-rests (corrupt s) refl
+  ends-leaves (corrupt {first} s) = (looks-kept (WakeBell NotFull all) (next-is (ShutWakeNf true first) s) refl refl, turn-rests (corrupt s) refl)
   ends-leaves (bad-slot s q h) = (copy-kept s q Bad refl h, turn-rests (bad-slot s q h) refl)
   ends-leaves (too_small s q h) = (copy-kept s q Small refl h, turn-rests (too_small s q h) refl)
   ends-leaves (full s q b h) = (looks-kept (LoadCounter (other p.own.side)) (next-is Look s) refl refl, turn-rests (full s q b h) refl)
@@ -158,11 +159,11 @@ module _ (side : Side) (r : List ℕ) (p : Party) (i o : List ℕ) (f : Fault) (
   ends-leaves (down s d) = (looks-kept LoadFlags (next-is Gate s) refl refl, turn-rests (down s d) refl)
   ends-leaves (down-again {epoch} s d) = (looks-kept LoadFlags (next-is (GateAgain epoch) s) refl refl, turn-rests (down-again s d) refl)
   ends-leaves (timed-out s r) = (looks-kept (LoadCounter (other p.own.side)) (next-is (LastLook true) s) refl refl, turn-rests (timed-out s r) refl)
-  ends-leaves (wake-failed s z) = turn-rests (wake-failed s z) refl
-  ends-leaves (close-failed s z) = turn-rests (close-failed s z) refl
-  ends-leaves (wait-failed s n) = turn-rests (wait-failed s n) refl
-  ends-leaves (shut-failed s a) = turn-rests (shut-failed s a) refl
-  ends-leaves (shut-failed-last s a z) = turn-rests (shut-failed-last s a z) refl
+  ends-leaves (wake-failed {l} {t} s z) = (looks-kept (WakeBell (ring_bell p.own.side) one) (next-is (Wake l t) s) refl refl, turn-rests (wake-failed s z) refl)
+  ends-leaves (close-failed s z) = (looks-kept (WakeBell (ring_bell p.own.side) all) (next-is CloseWake s) refl refl, turn-rests (close-failed s z) refl)
+  ends-leaves (wait-failed {epoch} s n) = (looks-kept (WaitBell (sleep_bell p.own.side) epoch) (next-is (Wait epoch) s) refl refl, turn-rests (wait-failed s n) refl)
+  ends-leaves (shut-failed {first} s a) = (looks-kept (WakeBell NotFull all) (next-is (ShutWakeNf false first) s) refl refl, turn-rests (shut-failed s a) refl)
+  ends-leaves (shut-failed-last {first} s a z) = (looks-kept (WakeBell NotFull all) (next-is (ShutWakeNf false first) s) refl refl, turn-rests (shut-failed-last s a z) refl)
   ends-leaves (resting s) =
       (looks-kept None (next-is Rest s) refl refl, (turn-still Resting (ap stance_of s) (still-rests p) (rw s), nobody None (next-is Rest s) refl))
   ends-leaves (asleep s) =

@@ -88,7 +88,7 @@ no-error : (ok : Bool) (n : ℕ) → ltb 0 n ≡ ok → n ≡ 0 → not ok ≡ t
 no-error true n e h = absurd (let f : ltb 0 n ≡ false = le-ltb 0 n (omega arith) in let z : ◌≡◌ {A = ℕ} 0 1 = cc in omega arith)
 no-error false n e h = refl
 
-module _ (P S v : ℕ) (on : Bool) (power-ok : power_ok P ≡ true) (Slot-ok : slot_ok S ≡ true) (w : World) (real : Real P S v on w) (side : Side) (payload lent : List ℕ) (fault : Fault)
+module _ (P S v : ℕ) (on : Bool) (power-ok : power_ok P ≡ true) (slot-ok : slot_ok S ≡ true) (w : World) (real : Real P S v on w) (side : Side) (payload lent : List ℕ) (fault : Fault)
     (g : takes w side payload lent fault ≡ true) where
   abbrev p : Party
   p = party_in w side
@@ -106,10 +106,10 @@ module _ (P S v : ℕ) (on : Bool) (power-ok : power_ok P ≡ true) (Slot-ok : s
   s = p.step
 
   abbrev after : World
-  after = after_turn P S v on power-ok Slot-ok w real side payload lent fault g
+  after = after_turn P S v on power-ok slot-ok w real side payload lent fault g
 
   abbrev next : Step
-  next = next-step P S v on power-ok Slot-ok w real side payload lent fault g
+  next = next-step P S v on power-ok slot-ok w real side payload lent fault g
 
   abbrev woken : Party
   woken = wakened (other side) q (woke_of (next_spec p) (error_of fault))
@@ -155,7 +155,7 @@ module _ (P S v : ℕ) (on : Bool) (power-ok : power_ok P ≡ true) (Slot-ok : s
   pub ready-own : (h : Bool) → ((e : ℕ) → s ≡ Wait e → rung_of side t < 2 ^ 32) → ReadyAt P S v on h side (other side) w → ReadyAt P S v on h side (other side) after
   ready-own true timely y =
       rw (mover-is, waiter-is, duty-kept)
-      (own _ s next (leads-here P S v on power-ok Slot-ok w real side payload lent fault g) (rung_of side t) (duty (other side) q.step)
+      (own _ s next (leads-here P S v on power-ok slot-ok w real side payload lent fault g) (rung_of side t) (duty (other side) q.step)
       (λ e at b. unrung e (le_at 4 r (bell_at (sleep_bell side))) (rung_of side t) (timely e at) (subst (λ (u : Step). Since (phase u) (le_at 4 r (bell_at (sleep_bell side))) (rung_of side t)) at (real.sides side).since) b)
       (rung_of side after.trace) (room_in P S v on side after.trace) (stop_at side (le_at 4 after.region flags_at))
       (λ u. (
@@ -165,15 +165,15 @@ module _ (P S v : ℕ) (on : Bool) (power-ok : power_ok P ≡ true) (Slot-ok : s
       ))
       (rw (stop-barred side (le_at 4 r flags_at)) y))
   ready-own false timely y =
-      rw mover-is (tries _ _ refl s next (leads-here P S v on power-ok Slot-ok w real side payload lent fault g) y)
+      rw mover-is (tries _ _ refl s next (leads-here P S v on power-ok slot-ok w real side payload lent fault g) y)
 
   -- a turn of the other's: here `side` moves, and the other waits
   pub ready-other : (h : Bool) → rings side on ≡ h → (wakes_at side s ≡ true → q.step ≡ Asleep → error_of fault ≡ 0) → ReadyAt P S v on h (other side) side w → ReadyAt P S v on h (other side) side after
   ready-other true rung lands y =
       let e : phase woken.step ≡ risen (wakes_at side s && not (ltb 0 (error_of fault))) (phase q.step) =
-      ap (λ (x : Access). phase (wakened (other side) q (woke_of x (error_of fault))).step) (access-is P S v on power-ok Slot-ok w real side payload lent fault g) ∙ woken-phase side q p.counter (error_of fault) s in
+      ap (λ (x : Access). phase (wakened (other side) q (woke_of x (error_of fault))).step) (access-is P S v on power-ok slot-ok w real side payload lent fault g) ∙ woken-phase side q p.counter (error_of fault) s in
       rw (mover-is, waiter-is, trace-is, e, rung-other p payload buffer t side s, room-other-is p payload buffer t P S v on r real.queue side s (real.sides side).room)
-      (theirs side _ s next (leads-here P S v on power-ok Slot-ok w real side payload lent fault g) rung (not (ltb 0 (error_of fault))) (phase q.step) (rung_of (other side) t)
+      (theirs side _ s next (leads-here P S v on power-ok slot-ok w real side payload lent fault g) rung (not (ltb 0 (error_of fault))) (phase q.step) (rung_of (other side) t)
       (stop_at (other side) (le_at 4 r flags_at)) (stop_at (other side) (le_at 4 after.region flags_at))
       (λ u. ap (stop_at (other side)) (flags-same u))
       (λ u z. no-error (ltb 0 (error_of fault)) (error_of fault) refl (lands u (asleep-step q.step z)))
@@ -197,7 +197,7 @@ module _ (P S v : ℕ) (on : Bool) (power-ok : power_ok P ≡ true) (Slot-ok : s
   pub rung-mine : (more : ℕ) → RungAt P S v on more side (other side) w → RungAt P S v on more side (other side) after
   rung-mine more y =
       rw (mover-is, waiter-is, owing-kept)
-      (holds_on (other side) _ s next (leads-here P S v on power-ok Slot-ok w real side payload lent fault g) q.step (rung_of side t)
+      (holds_on (other side) _ s next (leads-here P S v on power-ok slot-ok w real side payload lent fault g) q.step (rung_of side t)
       (rung_of side after.trace) (room_in P S v on side after.trace) more epoch-zero
       (λ u. (
         ap (rung_of side) trace-is ∙ rung-own p payload buffer t side s u,
@@ -210,5 +210,5 @@ module _ (P S v : ℕ) (on : Bool) (power-ok : power_ok P ≡ true) (Slot-ok : s
       rw (mover-is, waiter-is, trace-is, rung-other p payload buffer t side s, room-other-is p payload buffer t P S v on r real.queue side s (real.sides side).room)
       (roused-elim (roused (other side) q (woke_of (next_spec p) (error_of fault)))
       (λ u. holds_epoch u ≡ true → rung_by side s (rung_of (other side) t) + owing side next (room_by s (room_in P S v on (other side) t)) ≤ 2 + more)
-      (λ h. omega (arith, pays side _ s next (leads-here P S v on power-ok Slot-ok w real side payload lent fault g) (rung_of (other side) t), y h))
+      (λ h. omega (arith, pays side _ s next (leads-here P S v on power-ok slot-ok w real side payload lent fault g) (rung_of (other side) t), y h))
       (λ e h. absurd (let z : ◌≡◌ {A = ℕ} 0 1 = cc in omega arith)))

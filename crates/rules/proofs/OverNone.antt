@@ -42,20 +42,20 @@ module _ (side : Side) (w : World) (payload lent : List ℕ) (fault : Fault) whe
   abbrev p : Party
   p = party_in w side
 
-  pub record Blocked-at (timed : Bool) : Type 0 where
+  pub record BlockedAt (timed : Bool) : Type 0 where
     pub taken : takes w side payload lent fault ≡ true
     pub last : p.step ≡ LastLook timed
     pub blocked : room_here p.own p.counter (value_of w.region p.own (next_spec p)) ≡ Blocked
 
-  timed-turn : Given (turn side w.region p payload lent fault) Timeout → Blocked-at true
+  timed-turn : Given (turn side w.region p payload lent fault) Timeout → BlockedAt true
   timed-turn (turn-taken g (timed-out s r)) = record { taken = g; last = s; blocked = r }
 
-  closed-turn : (takes w side payload lent fault ≡ true → p.own.side ≡ Recorder) → Given (turn side w.region p payload lent fault) Closed → Blocked-at false
+  closed-turn : (takes w side payload lent fault ≡ true → p.own.side ≡ Recorder) → Given (turn side w.region p payload lent fault) Closed → BlockedAt false
   closed-turn o (turn-taken g (left s q d)) = absurd (let e = sym q ∙ o g in let z : ◌≡◌ {A = ℕ} 0 1 = cc in omega arith)
   closed-turn o (turn-taken g (left-again s q d)) = absurd (let e = sym q ∙ o g in let z : ◌≡◌ {A = ℕ} 0 1 = cc in omega arith)
   closed-turn o (turn-taken g (none_left s r)) = record { taken = g; last = s; blocked = r }
 
-none_seen : (k : ℕ) → as_room k ≡ Blocked → k ≡ 0
+pub none_seen : (k : ℕ) → as_room k ≡ Blocked → k ≡ 0
 none_seen zero e = refl
 none_seen (suc k) e = absurd (let z : ◌≡◌ {A = ℕ} 0 1 = cc in omega arith)
 
@@ -92,7 +92,7 @@ module _ (r : List ℕ) (P S : ℕ) (on : Bool) (v : ℕ) (fresh : Fresh r P S o
   slot_ok_lem = slot-fits r P S on v fresh
 
   -- such a look tells the room in the bytes
-  none-there : (side : Side) (hs : List Happening) → AllTyped hs → (payload lent : List ℕ) (fault : Fault) (timed : Bool) → Blocked-at side (reached r P S on v hs) payload lent fault timed
+  none-there : (side : Side) (hs : List Happening) → AllTyped hs → (payload lent : List ℕ) (fault : Fault) (timed : Bool) → BlockedAt side (reached r P S on v hs) payload lent fault timed
       → room side (capacity P) (reached r P S on v hs) ≡ 0
   none-there side hs t payload lent fault timed h =
       let w = reached r P S on v hs in

@@ -18,7 +18,7 @@ waits_on_at ph = holds_epoch_at ph || not (awake ph)
 abbrev pub waits_on : Step → Bool
 waits_on s = waits_on_at (phase s)
 
-later : (d : Duty) (k : ℕ) → Due false d k → Due true d k
+pub later : (d : Duty) (k : ℕ) → Due false d k → Due true d k
 later none k x = x
 later checking k x = x
 later raising k x = tt

@@ -187,7 +187,7 @@ module _ (P S v : ℕ) (on : Bool) where
     pub ring : (i : ℕ) → length t.delivered ≤ i → i < length t.sent → HoldsAt r i (nth t.sent i)
 
   -- one side of a world
-  pub record Side-good (side : Side) (r : List ℕ) (p : Party) (t : Trace) : Type 0 where
+  pub record SideGood (side : Side) (r : List ℕ) (p : Party) (t : Trace) : Type 0 where
     pub word : le_at 8 r (counter_at side) ≡ plus 64 v (count_of side t)
     pub seat : Seated side p t (le_at 4 r flags_at)
     pub since : Since (phase p.step) (le_at 4 r (bell_at (sleep_bell side))) (rung_of side t)
@@ -199,4 +199,4 @@ module _ (P S v : ℕ) (on : Bool) where
   pub record Real (w : World) : Type 0 where
     pub fixed : Fixed w.region
     pub queue : Queue w.region w.trace
-    pub sides : (side : Side) → Side-good side w.region (party_in w side) w.trace
+    pub sides : (side : Side) → SideGood side w.region (party_in w side) w.trace

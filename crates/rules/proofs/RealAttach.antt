@@ -30,7 +30,7 @@ use Rattle.rules.proofs.Refusals.{refuses, all-refuse, first-refuses, others-ref
 use Rattle.rules.proofs.Hands.{in-hand-none}
 use Rattle.rules.proofs.RealTurn.{both-sides}
 use Rattle.rules.proofs.RealCalls.{seat-one, seat-two}
-use Rattle.rules.proofs.Real.{InHand, HoldsAt, nth, Queue, Side-good, Real}
+use Rattle.rules.proofs.Real.{InHand, HoldsAt, nth, Queue, SideGood, Real}
 
 -- the k-th test of a list of checks; where they end in Done, it holds
 abbrev test_at : List Test → ℕ → Bool
@@ -59,7 +59,7 @@ pub bit-clear : (r : List ℕ) (side : Side) (spins : ℕ) → eqb (number (atta
 unfolding attach_answer attach_checks region_checks ring_checks flag_checks
 bit-clear r side spins e = not-true (bit_on (worth (attach_mark side)) (le_at 4 r flags_at)) (done-test (attach_checks r side spins) tt e 12)
 
-module _ (P S v : ℕ) (on : Bool) (power-ok : power_ok P ≡ true) (Slot-ok : slot_ok S ≡ true) (w : World) (real : Real P S v on w) (side : Side) where
+module _ (P S v : ℕ) (on : Bool) (power-ok : power_ok P ≡ true) (slot-ok : slot_ok S ≡ true) (w : World) (real : Real P S v on w) (side : Side) where
   abbrev r : List ℕ
   r = w.region
 
@@ -91,7 +91,7 @@ module _ (P S v : ℕ) (on : Bool) (power-ok : power_ok P ≡ true) (Slot-ok : s
   bells τ = bell-after r p.own p.tag [] (header-in P S v on r p [] real.fixed) (sleep_bell τ) a
 
   slots : (i : ℕ) (n : Note) → HoldsAt P S v on r i n → HoldsAt P S v on left i n
-  slots i n = holds_kept P S v on power-ok Slot-ok r p [] real.fixed i n a tt
+  slots i n = holds_kept P S v on power-ok slot-ok r p [] real.fixed i n a tt
 
   -- the bits of the marks: the own attach bit is set, the others are as they were
   close-kept : (τ σ : Side) → bit_on (worth (close_mark τ)) (set_bit (worth (attach_mark σ)) flags) ≡ bit_on (worth (close_mark τ)) flags
@@ -139,7 +139,7 @@ module _ (P S v : ℕ) (on : Bool) (power-ok : power_ok P ≡ true) (Slot-ok : s
   hand-left Recorder glancing h = tt
   hand-left Recorder leaving h = tt
 
-  other-left : Side-good P S v on (other side) left (party_in w (other side)) w.trace
+  other-left : SideGood P S v on (other side) left (party_in w (other side)) w.trace
   other-left =
       let h = real.sides (other side) in
       record {
@@ -166,7 +166,7 @@ module _ (P S v : ℕ) (on : Bool) (power-ok : power_ok P ≡ true) (Slot-ok : s
     nobody : p.own.attached ≡ false
     nobody = sym (real.sides side).seat.attached-bit ∙ bit-clear r side spins accepted
 
-    newcomer : Side-good P S v on side left (attached r side spins) w.trace
+    newcomer : SideGood P S v on side left (attached r side spins) w.trace
     newcomer =
         let h = real.sides side in
         let f = real.fixed in
@@ -203,7 +203,7 @@ module _ (P S v : ℕ) (on : Bool) (power-ok : power_ok P ≡ true) (Slot-ok : s
           rw e record {
             fixed = fixed_kept P S v on r p [] real.fixed a;
             queue = queue-left;
-            sides = both-sides side (λ τ. Side-good P S v on τ left (party_of (seat w.bench side (attached r side spins)) τ) w.trace)
-                (subst (λ (x : Party). Side-good P S v on side left x w.trace) (sym (seat-one side w.bench (attached r side spins))) (newcomer spins e))
-                (subst (λ (x : Party). Side-good P S v on (other side) left x w.trace) (sym (seat-two side w.bench (attached r side spins))) other-left);
+            sides = both-sides side (λ τ. SideGood P S v on τ left (party_of (seat w.bench side (attached r side spins)) τ) w.trace)
+                (subst (λ (x : Party). SideGood P S v on side left x w.trace) (sym (seat-one side w.bench (attached r side spins))) (newcomer spins e))
+                (subst (λ (x : Party). SideGood P S v on (other side) left x w.trace) (sym (seat-two side w.bench (attached r side spins))) other-left);
           }

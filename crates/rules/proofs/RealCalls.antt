@@ -26,7 +26,7 @@ use Rattle.rules.proofs.Views.{sleeping-step}
 use Rattle.rules.proofs.Refusals.{ready-rests}
 use Rattle.rules.proofs.RealTurn.{both-sides}
 use Rattle.rules.proofs.Hands.{in-hand-none}
-use Rattle.rules.proofs.Real.{HasRoom, parts, Since, Side-good, Real, free}
+use Rattle.rules.proofs.Real.{HasRoom, parts, Since, SideGood, Real, free}
 
 -- a step that relies on nothing
 pub data Idle : Step → Type 0 where
@@ -34,7 +34,7 @@ pub data Idle : Step → Type 0 where
   looks : Idle Look
   glances : Idle (LastLook true)
   closes : Idle CloseSet
-  shuts : {c : Bool} → Idle (ShutSet c)
+  shuts : Idle (ShutSet false)
 
 -- a record that a call left, or changed to begin or to end
 pub record Begun (side : Side) (p q : Party) : Type 0 where
@@ -211,12 +211,12 @@ module _ (P S v : ℕ) (on : Bool) where
       record {
         fixed = real.fixed;
         queue = real.queue;
-        sides = both-sides side (λ τ. Side-good P S v on τ w.region (party_in (seated w side q) τ) w.trace)
-            (subst (λ (x : Party). Side-good P S v on side w.region x w.trace) (sym (seat-one side w.bench q)) mine)
-            (subst (λ (x : Party). Side-good P S v on (other side) w.region x w.trace) (sym (seat-two side w.bench q)) (real.sides (other side)));
+        sides = both-sides side (λ τ. SideGood P S v on τ w.region (party_in (seated w side q) τ) w.trace)
+            (subst (λ (x : Party). SideGood P S v on side w.region x w.trace) (sym (seat-one side w.bench q)) mine)
+            (subst (λ (x : Party). SideGood P S v on (other side) w.region x w.trace) (sym (seat-two side w.bench q)) (real.sides (other side)));
       }
     where
-      mine : Side-good P S v on side w.region q w.trace
+      mine : SideGood P S v on side w.region q w.trace
       mine =
           let h = real.sides side in
           record {

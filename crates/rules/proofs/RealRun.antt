@@ -20,7 +20,8 @@ use Rattle.layout.specs.Flags.{worth, not_full_on, reserved_from, bit_on, attach
 use Rattle.layout.specs.Header.{flags_at, counter_at, bell_at}
 use Rattle.layout.specs.Create.{first_flags, created}
 use Rattle.layout.proofs.SizeLaws.{capacity-room}
-use Rattle.layout.proofs.Headed.{Fitting, length-headed, headed-power, headed-slot, headed-flags, headed-counter, headed-bell}
+use Rattle.layout.specs.Whole.{Fitting}
+use Rattle.layout.proofs.Headed.{length-headed, headed-power, headed-slot, headed-flags, headed-counter, headed-bell}
 use Rattle.layout.proofs.Accepted.{tests, fits, first_small}
 use Rattle.rules.specs.Sides.{sleep_bell}
 use Rattle.rules.specs.Calls.{push_spec, pop_spec, close_spec, shut_spec, spurious_spec, timeout_spec}
@@ -33,12 +34,12 @@ use Rattle.rules.proofs.Taken.{turn_world}
 use Rattle.rules.proofs.RealTurn.{real-turned}
 use Rattle.rules.proofs.RealCalls.{Changed, seated, push-changes, pop-changes, close-changes, shut-changes, spurious-changes, timeout-changes, real-called}
 use Rattle.rules.proofs.RealAttach.{attach_world, real-attached}
-use Rattle.rules.proofs.Real.{Side-good, Real}
+use Rattle.rules.proofs.Real.{SideGood, Real}
 
-module _ (P S v : ℕ) (on : Bool) (power-ok : power_ok P ≡ true) (Slot-ok : slot_ok S ≡ true) where
+module _ (P S v : ℕ) (on : Bool) (power-ok : power_ok P ≡ true) (slot-ok : slot_ok S ≡ true) where
   -- whatever happens is an attach, a turn, or a call that changes its own party's record or nothing
   pub happens-by : (F : World → Type 0) (h : Happening) (w : World) → Typed h → (real : Real P S v on w)
-      → ((side : Side) (spins : ℕ) → F (attach_world P S v on power-ok Slot-ok w real side spins))
+      → ((side : Side) (spins : ℕ) → F (attach_world P S v on power-ok slot-ok w real side spins))
       → ((side : Side) (payload lent : List ℕ) (fault : Fault) → F (turn_world w side payload lent fault))
       → ((side : Side) (q : Party) → Changed side (party_in w side) q → F (seated P S v on w side q))
       → F (happens h w)
@@ -55,7 +56,7 @@ module _ (P S v : ℕ) (on : Bool) (power-ok : power_ok P ≡ true) (Slot-ok : s
 
   pub real-happens : (h : Happening) (w : World) → Typed h → Real P S v on w → Real P S v on (happens h w)
   real-happens h w y real =
-      happens-by (Real P S v on) h w y real (real-attached P S v on power-ok Slot-ok w real) (real-turned P S v on power-ok Slot-ok w real) (real-called P S v on w real)
+      happens-by (Real P S v on) h w y real (real-attached P S v on power-ok slot-ok w real) (real-turned P S v on power-ok slot-ok w real) (real-called P S v on w real)
 
   pub real-run : (hs : List Happening) (w : World) → AllTyped hs → Real P S v on w → Real P S v on (run hs w)
   unfolding run
@@ -96,7 +97,7 @@ module _ (r : List ℕ) (P S : ℕ) (on : Bool) (v : ℕ) (fresh : Fresh r P S o
   abbrev region : List ℕ
   region = created r P S on v
 
-  flags-are : le_at 4 region flags_at ≡ first_flags on
+  pub flags-are : le_at 4 region flags_at ≡ first_flags on
   unfolding created
   flags-are = headed-flags r (ring_bytes P S) P S (first_flags on) v made
 
@@ -112,7 +113,7 @@ module _ (r : List ℕ) (P S : ℕ) (on : Bool) (v : ℕ) (fresh : Fresh r P S o
   unfolding spins_ok
   none-few = refl
 
-  side-starts : (side : Side) → Side-good P S v on side region (party_in (opened region) side) (opened region).trace
+  side-starts : (side : Side) → SideGood P S v on side region (party_in (opened region) side) (opened region).trace
   side-starts Sender =
       record {
         word = counter-starts Sender;

@@ -48,7 +48,7 @@ use Rattle.rules.proofs.Hands.{in-hand-none, queue-kept, room-own, room-other, h
 use Rattle.rules.proofs.FitLaws.{copy-by}
 use Rattle.rules.proofs.Copies.{copy_written, copy_read}
 use Rattle.rules.proofs.Taken.{turn_world, turn-refused, seat-own, seat-other, turn-taken, attached-here, length-ok, lent_ok_lem}
-use Rattle.rules.proofs.Real.{count_of, HasRoom, Since, sizes, room_in, nth, InHand, Queue, Side-good, Real}
+use Rattle.rules.proofs.Real.{count_of, HasRoom, Since, sizes, room_in, nth, InHand, Queue, SideGood, Real}
 
 -- what holds of one side and of the other holds of both
 pub both-sides : (side : Side) (F : Side → Type 0) → F side → F (other side) → (τ : Side) → F τ
@@ -61,7 +61,7 @@ both-sides Recorder F x y Recorder = x
 abbrev pub sight_at : (P S v : ℕ) (on : Bool) → Side → Own → List ℕ → Trace → (blocking : Bool) → Sight
 sight_at P S v on side own r t blocking = sight_of own (room_in P S v on side t) (room_in P S v on (other side) t) (door_of side (le_at 4 r flags_at)) blocking (le_at 4 r (bell_at (sleep_bell side)))
 
-module _ (P S v : ℕ) (on : Bool) (power-ok : power_ok P ≡ true) (Slot-ok : slot_ok S ≡ true) where
+module _ (P S v : ℕ) (on : Bool) (power-ok : power_ok P ≡ true) (slot-ok : slot_ok S ≡ true) where
   -- what the counters, the flags and the bell tell a side
   module _ (side : Side) (r : List ℕ) (t : Trace) (queue : Queue P S v on r t) (words : (side : Side) → le_at 8 r (counter_at side) ≡ plus 64 v (count_of side t)) where
     small : capacity P + 1 < 2 ^ 64
@@ -112,7 +112,7 @@ module _ (P S v : ℕ) (on : Bool) (power-ok : power_ok P ≡ true) (Slot-ok : s
     abbrev p : Party
     p = party_in w side
 
-    abbrev mine : Side-good P S v on side r p t
+    abbrev mine : SideGood P S v on side r p t
     mine = real.sides side
 
     pub own_is : p.own ≡ sizes P S v on side p.own.spins
@@ -177,14 +177,14 @@ module _ (P S v : ℕ) (on : Bool) (power-ok : power_ok P ≡ true) (Slot-ok : s
 
     fits : side ≡ Sender → p.step ≡ Copy → slot_head_bytes + length payload ≤ S
     unfolding payload_capacity
-    fits e q = omega (arith, payload-in e q, slot-least S Slot-ok)
+    fits e q = omega (arith, payload-in e q, slot-least S slot-ok)
 
     popped : (σ : Side) (s : Step) → σ ≡ Recorder → s ≡ Copy → lent_ok (stance_of s) (lent_to σ (length payload) (length lent)) p.length ≡ true → length lent ≡ p.length
     popped σ s e q l = eqb-true (length lent) p.length (rw (e, q) at l)
 
     queue-after : Queue P S v on left told
     queue-after =
-        queue-kept P S v on power-ok Slot-ok r p payload real.fixed t buffer real.queue side p.step a refl own_is counter-is d fits mine.room mine.hand
+        queue-kept P S v on power-ok slot-ok r p payload real.fixed t buffer real.queue side p.step a refl own_is counter-is d fits mine.room mine.hand
 
     -- the hand after a copy
     copy-hand : (σ : Side) (own : Own) (c val : ℕ) → own ≡ sizes P S v on σ own.spins → c ≡ plus 64 v (count_of σ t) → val ≡ value_of r own (slot_access σ c)
@@ -193,12 +193,12 @@ module _ (P S v : ℕ) (on : Bool) (power-ok : power_ok P ≡ true) (Slot-ok : s
     copy-hand Sender own c val o h e f l k b q =
         subst (λ (s : Step). InHand P S v on Sender (phase s) (leaves_of r own (WriteSlot c) p.tag payload) (traced (WriteSlot c) p payload b t))
         (sym (ap (λ (m : Move). step_after m Copy) (copy-by own p.length val Sender (ap (λ (x : Own). x.side) o))))
-        (copy_written P S v on power-ok Slot-ok r real.fixed t own c p.tag payload o h mine.tag_small (f refl))
+        (copy_written P S v on power-ok slot-ok r real.fixed t own c p.tag payload o h mine.tag_small (f refl))
     copy-hand Recorder own c val o h e f l k b q =
         let n : Note = nth t.sent (length t.delivered) in
         subst (λ (s : Step). InHand P S v on Recorder (phase s) (leaves_of r own (ReadSlot c) p.tag payload) (traced (ReadSlot c) p payload b t))
         (sym (ap (λ (m : Move). step_after m Copy) (copy-by own p.length val Recorder (ap (λ (x : Own). x.side) o))))
-        (rw (e, q) (copy_read P S v on power-ok Slot-ok r real.fixed t own c o h n (real.queue.ring (length t.delivered) (omega arith) (omega arith)) p.length lent (l refl)
+        (rw (e, q) (copy_read P S v on power-ok slot-ok r real.fixed t own c o h n (real.queue.ring (length t.delivered) (omega arith) (omega arith)) p.length lent (l refl)
         (fit_of (head_of (value_of r own (ReadSlot c))) (payload_capacity own.slot) p.length) refl refl (leaves_of r own (ReadSlot c) p.tag payload)))
 
     hand-after : InHand P S v on side (phase next-step) left told
@@ -207,7 +207,7 @@ module _ (P S v : ℕ) (on : Bool) (power-ok : power_ok P ≡ true) (Slot-ok : s
       where
         by : (p.step ≡ Copy) ⊎ (p.step ≡ Copy → ⊥) → InHand P S v on side (phase next-step) left told
         by (inr n) =
-            hand-own P S v on power-ok Slot-ok r p payload real.fixed t buffer real.queue side sight p.step next-step refl n leads-here mine.hand
+            hand-own P S v on power-ok slot-ok r p payload real.fixed t buffer real.queue side sight p.step next-step refl n leads-here mine.hand
         by (inl q) =
             subst (λ (s : Step). InHand P S v on side (phase (step_after (move_at s p.own p.counter p.blocking p.length value (error_of fault)) s)) (leaves_of r p.own (next_at s side p.counter) p.tag payload)
             (traced (next_at s side p.counter) p payload (buffer_of r p.own (next_at s side p.counter) p.length lent) t))
@@ -219,7 +219,7 @@ module _ (P S v : ℕ) (on : Bool) (power-ok : power_ok P ≡ true) (Slot-ok : s
     bell-left : (τ : Side) → le_at 4 r (bell_at (sleep_bell τ)) < 2 ^ 32 → le_at 4 left (bell_at (sleep_bell τ)) < 2 ^ 32
     bell-left τ h = rw (bell-after r p.own p.tag payload (header-in P S v on r p payload real.fixed) (sleep_bell τ) a) (bell-by-small a (sleep_bell τ) (le_at 4 r (bell_at (sleep_bell τ))) h)
 
-    own-after : Side-good P S v on side left (moved p p.step next-step) told
+    own-after : SideGood P S v on side left (moved p p.step next-step) told
     own-after =
         record {
           word =
@@ -228,7 +228,7 @@ module _ (P S v : ℕ) (on : Bool) (power-ok : power_ok P ≡ true) (Slot-ok : s
               ∙ counts-own P S v on r p payload real.fixed t buffer side p.step a d;
           seat = seated-own P S v on r p payload real.fixed t buffer side sight refl refl p.step next-step a refl (attached-here w side payload lent fault g) d leads-here mine.seat;
           since = since-own P S v on r p payload real.fixed t buffer side sight refl p.step next-step leads-here mine.since;
-          room = room-own P S v on power-ok Slot-ok r p payload real.fixed t buffer real.queue side sight refl p.step next-step leads-here mine.room;
+          room = room-own P S v on power-ok slot-ok r p payload real.fixed t buffer real.queue side sight refl p.step next-step leads-here mine.room;
           hand = hand-after;
           tag_small = mine.tag_small;
           bell-small = bell-left side mine.bell-small;
@@ -237,10 +237,10 @@ module _ (P S v : ℕ) (on : Bool) (power-ok : power_ok P ≡ true) (Slot-ok : s
     abbrev q : Party
     q = party_in w (other side)
 
-    abbrev theirs : Side-good P S v on (other side) r q t
+    abbrev theirs : SideGood P S v on (other side) r q t
     theirs = real.sides (other side)
 
-    other_after : (q' : Party) → Roused q q' → q'.tag ≡ q.tag → Side-good P S v on (other side) left q' told
+    other_after : (q' : Party) → Roused q q' → q'.tag ≡ q.tag → SideGood P S v on (other side) left q' told
     other_after q' o e =
         record {
           word = word-other P S v on r p payload real.fixed t buffer side p.step a d ∙ theirs.word ∙ ap (plus 64 v) (sym (counts-other P S v on r p payload real.fixed t buffer side p.step a d));
@@ -248,9 +248,9 @@ module _ (P S v : ℕ) (on : Bool) (power-ok : power_ok P ≡ true) (Slot-ok : s
           since = roused-elim o (λ s. Since (phase s) (le_at 4 left (bell_at (sleep_bell (other side)))) (rung_of (other side) told))
               (since-other P S v on r p payload real.fixed t buffer side p.step a (phase q.step) d theirs.since) (λ z. tt);
           room = roused-elim o (λ s. HasRoom (phase s) (room_in P S v on (other side) told))
-              (room-other P S v on power-ok Slot-ok r p payload real.fixed t buffer real.queue side p.step (phase q.step) mine.room theirs.room) (λ z. tt);
+              (room-other P S v on power-ok slot-ok r p payload real.fixed t buffer real.queue side p.step (phase q.step) mine.room theirs.room) (λ z. tt);
           hand = roused-elim o (λ s. InHand P S v on (other side) (phase s) left told)
-              (hand-other P S v on power-ok Slot-ok r p payload real.fixed t buffer real.queue side p.step a (phase q.step) d theirs.room theirs.hand)
+              (hand-other P S v on power-ok slot-ok r p payload real.fixed t buffer real.queue side p.step a (phase q.step) d theirs.room theirs.hand)
               (λ z. in-hand-none P S v on (other side) looking left told tt);
           tag_small = rw e theirs.tag_small;
           bell-small = bell-left (other side) theirs.bell-small;
@@ -286,9 +286,9 @@ module _ (P S v : ℕ) (on : Bool) (power-ok : power_ok P ≡ true) (Slot-ok : s
         record {
           fixed = fixed_kept P S v on r p payload real.fixed a;
           queue = queue-after;
-          sides = both-sides side (λ τ. Side-good P S v on τ left (party_in after_turn τ) told)
-              (subst (λ (x : Party). Side-good P S v on side left x told) (sym (seat-own side w.bench (moved p p.step next-step) woken)) own-after)
-              (subst (λ (x : Party). Side-good P S v on (other side) left x told) (sym (seat-other side w.bench (moved p p.step next-step) woken))
+          sides = both-sides side (λ τ. SideGood P S v on τ left (party_in after_turn τ) told)
+              (subst (λ (x : Party). SideGood P S v on side left x told) (sym (seat-own side w.bench (moved p p.step next-step) woken)) own-after)
+              (subst (λ (x : Party). SideGood P S v on (other side) left x told) (sym (seat-other side w.bench (moved p p.step next-step) woken))
               (other_after woken (roused (other side) q (woke_of (next_spec p) (error_of fault))) (woken-tag q (woke_of (next_spec p) (error_of fault)))));
         }
 

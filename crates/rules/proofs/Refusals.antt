@@ -13,6 +13,7 @@ use Rattle.types.specs.declared.Party.{Party}
 use Rattle.types.specs.declared.Reply.{Reply}
 use Rattle.types.specs.declared.Turned.{Turned}
 use Rattle.types.specs.declared.Fault.{Fault}
+use Rattle.types.specs.declared.Event.TheVariants.{Turn, Failing, Spurious, TimeOut, Push, Pop, Close, Shutdown as Shut}
 use Rattle.types.specs.declared.Step.{Step}
 use Rattle.types.specs.declared.Step.TheVariants.{Rest, Look, LastLook, CloseSet, ShutSet}
 use Rattle.types.specs.declared.Answer.{Answer}
@@ -24,8 +25,9 @@ use Rattle.layout.specs.Attach.{attached as joined, unattached, flag_checks, rin
 use Rattle.rules.specs.Take.{stance_of}
 use Rattle.rules.specs.Calls.{is_resting, is_sleeping, sound, ready, reply, at, named, begins, rouses, push_spec, pop_spec, close_spec, shut_spec, spurious_spec, timeout_spec}
 use Rattle.rules.specs.Turn.{taken, refused, turn_spec, turn_leaves, turn_buffer}
-use Rattle.rules.specs.Given.{Checked, passed, fails, holds, Ask, create, attach, turn, Given, created, attached, push-bad, pop-bad, close-bad, shutdown-bad, spurious-bad, timeout-bad, turn-bad, push-closed, pop-closed, close-closed, push-off, push-long, push_begun, pop-begun, close-begun, shutdown-begun, spurious-idle, timeout-idle, spurious-taken, timeout-taken, turn-taken}
-use Rattle.rules.specs.Leaves.{AtRest, Unchanged, Leaves, LeavesAll}
+use Rattle.rules.specs.Given.{Checked, passed, fails, holds, Ask, create, attach, turn, Given, created, attached, push-bad, pop-bad, close-bad, shutdown-bad, spurious-bad, timeout-bad, turn-bad, push-closed, pop-closed, close-closed, push-off, push-long, push_begun, pop-begun, close-begun, shutdown-begun, spurious-idle, timeout-idle, spurious-taken, timeout-taken, turn-taken, answered}
+use Rattle.rules.specs.Leaves.{AtRest, Unchanged, Leaves, LeavesAll, LeavesKept, LeavesAllKept, BenchAsks}
+use Rattle.rules.specs.Bench.{played, played_leaves, played_buffer, settled, turned}
 use Rattle.rules.proofs.Views.{resting-step}
 use Rattle.rules.proofs.Answered.{given-first}
 use Rattle.rules.proofs.Leaving.{ends-leaves}
@@ -57,7 +59,7 @@ refuses Nothing = true
 refuses Begun = false
 refuses GoesOn = false
 
-unchanged-leaves : (x : Answer) (a : Ask) → T (refuses x) → Unchanged a → Leaves x a
+unchanged-leaves : (x : Answer) (a : Ask) → T (refuses x) → Unchanged a → LeavesKept x a
 unchanged-leaves (Done l t) a h u = absurd h
 unchanged-leaves InvalidMagic a h u = u
 unchanged-leaves UnsupportedVersion a h u = u
@@ -122,7 +124,7 @@ pub others-refuse : (a : Bool) (b : Bool) → T (a && b) → T b
 others-refuse true b t = t
 others-refuse false b t = absurd t
 
-checked-leaves : {cs : List Test} {x : Answer} (w : Ask) → T (all-refuse cs) → AtRest w → ((y : Answer) → first_of cs ≡ y → T (refuses y) → Unchanged w) → Checked cs x → Leaves x w
+checked-leaves : {cs : List Test} {x : Answer} (w : Ask) → T (all-refuse cs) → AtRest w → ((y : Answer) → first_of cs ≡ y → T (refuses y) → Unchanged w) → Checked cs x → LeavesKept x w
 checked-leaves w t r u passed = r
 checked-leaves w t r u (fails {b} {a} {cs} e) =
     let s = first-refuses (refuses a) (all-refuse cs) t in
@@ -209,7 +211,7 @@ attach-rests : (r : List ℕ) (side : Side) (spins : ℕ) → AtRest (attach r s
 unfolding attach_reply
 attach-rests r side spins = either-rests (eqb (number (attach_answer r side spins)) 0) (joined r side spins) (unattached side) refl refl
 
-given-leaves : {a : Ask} {x : Answer} → Given a x → Leaves x a
+given-leaves : {a : Ask} {x : Answer} → Given a x → LeavesKept x a
 unfolding attach_checks region_checks ring_checks flag_checks push_spec pop_spec close_spec shut_spec spurious_spec timeout_spec
 given-leaves (created {r} {power} {slot} {notfull} {start} c) = checked-leaves (create r power slot notfull start) tt tt (create-refused r power slot notfull start) c
 given-leaves (attached {r} {side} {spins} c) = checked-leaves (attach r side spins) tt (attach-rests r side spins) (attach-refused r side spins) c
@@ -235,5 +237,25 @@ given-leaves (spurious-taken h s) = tt
 given-leaves (timeout-taken h s) = tt
 given-leaves (turn-taken {side} {r} {p} {i} {o} {f} h e) = ends-leaves side r p i o f h e
 
+pub leaves-all-kept : LeavesAllKept
+leaves-all-kept a = given-leaves (given-first a)
+
+kept-leaves : (x : Answer) (a : Ask) → LeavesKept x a → Leaves x a
+kept-leaves CorruptIndices a h = h.1
+kept-leaves (Syscall op e) a h = h.1
+kept-leaves x a h = h
+
 pub leaves_all : LeavesAll
-leaves_all a = given-leaves (given-first a)
+leaves_all a = kept-leaves (answered a) a (leaves-all-kept a)
+
+-- a bench answers and leaves what the call or the turn does
+pub bench-asks : BenchAsks
+unfolding played played_leaves played_buffer settled turned
+bench-asks r b i o (Turn side) = (refl, (refl, refl))
+bench-asks r b i o (Failing side e) = (refl, (refl, refl))
+bench-asks r b i o (Spurious side) = (refl, (refl, refl))
+bench-asks r b i o (TimeOut side) = (refl, (refl, refl))
+bench-asks r b i o (Push k t l) = (refl, (refl, refl))
+bench-asks r b i o (Pop k l) = (refl, (refl, refl))
+bench-asks r b i o (Close side) = (refl, (refl, refl))
+bench-asks r b i o (Shut side) = (refl, (refl, refl))

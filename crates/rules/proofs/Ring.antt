@@ -27,7 +27,7 @@ use Rattle.rules.proofs.After.{Elsewhere, part-after}
 use Rattle.rules.proofs.Kept.{header-in, length_more}
 use Rattle.rules.proofs.Real.{sizes, nth, blank, HoldsAt, Fixed, Queue}
 
-module _ (P S v : ℕ) (on : Bool) (power-ok : power_ok P ≡ true) (Slot-ok : slot_ok S ≡ true) where
+module _ (P S v : ℕ) (on : Bool) (power-ok : power_ok P ≡ true) (slot-ok : slot_ok S ≡ true) where
   -- the capacity divides 2^64, so a wrapped counter falls on the place of the whole one
   even : 2 ^ 64 % capacity P ≡ 0
   even =

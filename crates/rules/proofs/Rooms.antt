@@ -29,7 +29,7 @@ as-blocked : (k : ℕ) → k ≡ 0 → as_room k ≡ Blocked
 as-blocked zero e = refl
 as-blocked (suc k) e = absurd (omega arith)
 
-as-free : (k : ℕ) → 0 < k → as_room k ≡ Free
+pub as-free : (k : ℕ) → 0 < k → as_room k ≡ Free
 as-free zero h = absurd (omega arith)
 as-free (suc k) h = refl
 

@@ -52,13 +52,13 @@ module _ (P S v : ℕ) (on : Bool) (notes : List Note) where
   sealed-called w Sender q (inr b) y = record { closed = b.closed ∙ y.closed; same = y.same }
   sealed-called w Recorder q c y = record { closed = y.closed; same = y.same }
 
-  module _ (power-ok : power_ok P ≡ true) (Slot-ok : slot_ok S ≡ true) (w : World) (real : Real P S v on w) (y : Sealed notes w) where
+  module _ (power-ok : power_ok P ≡ true) (slot-ok : slot_ok S ≡ true) (w : World) (real : Real P S v on w) (y : Sealed notes w) where
     -- whoever attaches finds its seat empty
-    sealed-attached : (side : Side) (spins : ℕ) → Sealed notes (attach_world P S v on power-ok Slot-ok w real side spins)
+    sealed-attached : (side : Side) (spins : ℕ) → Sealed notes (attach_world P S v on power-ok slot-ok w real side spins)
     unfolding attach_leaves attach_reply
     sealed-attached side spins = by side (eqb (number (attach_answer w.region side spins)) 0) refl
       where
-        by : (side : Side) (b : Bool) → eqb (number (attach_answer w.region side spins)) 0 ≡ b → Sealed notes (attach_world P S v on power-ok Slot-ok w real side spins)
+        by : (side : Side) (b : Bool) → eqb (number (attach_answer w.region side spins)) 0 ≡ b → Sealed notes (attach_world P S v on power-ok slot-ok w real side spins)
         by side false e = rw e record { closed = y.closed; same = y.same }
         by Sender true e =
             let h = (real.sides Sender).seat in
@@ -76,11 +76,11 @@ module _ (P S v : ℕ) (on : Bool) (notes : List Note) where
             let s = p.step in
             let a = next_at s Sender p.counter in
             let buffer = buffer_of w.region p.own a p.length lent in
-            subst (Sealed notes) (sym (turn-is-after P S v on power-ok Slot-ok w real Sender payload lent fault g))
+            subst (Sealed notes) (sym (turn-is-after P S v on power-ok slot-ok w real Sender payload lent fault g))
             (record {
-              closed = ap (λ (x : Party). x.closed) (mover-is P S v on power-ok Slot-ok w real Sender payload lent fault g) ∙ closed-stays (stance_of s) p.closed y.closed;
+              closed = ap (λ (x : Party). x.closed) (mover-is P S v on power-ok slot-ok w real Sender payload lent fault g) ∙ closed-stays (stance_of s) p.closed y.closed;
               same =
-                  ap (λ (x : Trace). x.sent) (trace-is P S v on power-ok Slot-ok w real Sender payload lent fault g)
+                  ap (λ (x : Trace). x.sent) (trace-is P S v on power-ok slot-ok w real Sender payload lent fault g)
                   ∙ notes-own p payload buffer w.trace Sender p.counter s a (does Sender p.counter s) (no_store (λ u. parts (phase u)) s ((real.sides Sender).seat.over y.closed) (λ l g. refl))
                   ∙ y.same;
             })
@@ -88,24 +88,24 @@ module _ (P S v : ℕ) (on : Bool) (notes : List Note) where
             let p = party_in w Recorder in
             let a = next_at p.step Recorder p.counter in
             let buffer = buffer_of w.region p.own a p.length lent in
-            subst (Sealed notes) (sym (turn-is-after P S v on power-ok Slot-ok w real Recorder payload lent fault g))
+            subst (Sealed notes) (sym (turn-is-after P S v on power-ok slot-ok w real Recorder payload lent fault g))
             (record {
               closed =
-                  ap (λ (x : Party). x.closed) (waiter-is P S v on power-ok Slot-ok w real Recorder payload lent fault g)
+                  ap (λ (x : Party). x.closed) (waiter-is P S v on power-ok slot-ok w real Recorder payload lent fault g)
                   ∙ (roused Sender (party_in w Sender) (woke_of (next_spec p) (error_of fault))).closed
                   ∙ y.closed;
               same =
-                  ap (λ (x : Trace). x.sent) (trace-is P S v on power-ok Slot-ok w real Recorder payload lent fault g)
+                  ap (λ (x : Trace). x.sent) (trace-is P S v on power-ok slot-ok w real Recorder payload lent fault g)
                   ∙ notes-kept p payload buffer w.trace Recorder p.counter p.step a (does Recorder p.counter p.step)
                   ∙ y.same;
             })
 
-  module _ (power-ok : power_ok P ≡ true) (Slot-ok : slot_ok S ≡ true) where
+  module _ (power-ok : power_ok P ≡ true) (slot-ok : slot_ok S ≡ true) where
     sealed-happens : (h : Happening) (w : World) → Typed h → Real P S v on w → Sealed notes w → Sealed notes (happens h w)
     sealed-happens h w t real y =
-        happens-by P S v on power-ok Slot-ok (Sealed notes) h w t real (sealed-attached power-ok Slot-ok w real y) (sealed-turned power-ok Slot-ok w real y) (λ side q c. sealed-called w side q c y)
+        happens-by P S v on power-ok slot-ok (Sealed notes) h w t real (sealed-attached power-ok slot-ok w real y) (sealed-turned power-ok slot-ok w real y) (λ side q c. sealed-called w side q c y)
 
     pub sealed-run : (hs : List Happening) (w : World) → AllTyped hs → Real P S v on w → Sealed notes w → Sealed notes (run hs w)
     unfolding run
     sealed-run [] w t real y = y
-    sealed-run (h ∷ hs) w t real y = sealed-run hs (happens h w) t.1 (real-happens P S v on power-ok Slot-ok h w t.0 real) (sealed-happens h w t.0 real y)
+    sealed-run (h ∷ hs) w t real y = sealed-run hs (happens h w) t.1 (real-happens P S v on power-ok slot-ok h w t.0 real) (sealed-happens h w t.0 real y)

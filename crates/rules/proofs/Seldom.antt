@@ -113,10 +113,10 @@ module _ (P S v : ℕ) (on : Bool) where
   called-theirs w side q d a more y =
       rw (seat-one side w.bench q, seat-two side w.bench q) (λ h. omega (arith, y h, a (room_in P S v on (other side) w.trace)))
 
-  module _ (power-ok : power_ok P ≡ true) (Slot-ok : slot_ok S ≡ true) (w : World) (real : Real P S v on w) where
+  module _ (power-ok : power_ok P ≡ true) (slot-ok : slot_ok S ≡ true) (w : World) (real : Real P S v on w) where
     module _ (side : Side) (spins : ℕ) where
       abbrev joined : World
-      joined = attach_world P S v on power-ok Slot-ok w real side spins
+      joined = attach_world P S v on power-ok slot-ok w real side spins
 
       attached-mine : (more : ℕ) → RungAt P S v on more side (other side) w → RungAt P S v on more side (other side) joined
       unfolding attach_leaves attach_reply
@@ -142,14 +142,14 @@ module _ (P S v : ℕ) (on : Bool) where
       turned-mine payload lent fault more y = by (takes w side payload lent fault) refl
         where
           by : (b : Bool) → takes w side payload lent fault ≡ b → RungAt P S v on more side (other side) (turn_world w side payload lent fault)
-          by true g = subst (RungAt P S v on more side (other side)) (sym (turn-is-after P S v on power-ok Slot-ok w real side payload lent fault g)) (rung-mine P S v on power-ok Slot-ok w real side payload lent fault g more y)
+          by true g = subst (RungAt P S v on more side (other side)) (sym (turn-is-after P S v on power-ok slot-ok w real side payload lent fault g)) (rung-mine P S v on power-ok slot-ok w real side payload lent fault g more y)
           by false g = subst (RungAt P S v on more side (other side)) (sym (turn-refused w side payload lent fault g)) y
 
       turned-theirs : (payload lent : List ℕ) (fault : Fault) (more : ℕ) → RungAt P S v on more (other side) side w → RungAt P S v on more (other side) side (turn_world w side payload lent fault)
       turned-theirs payload lent fault more y = by (takes w side payload lent fault) refl
         where
           by : (b : Bool) → takes w side payload lent fault ≡ b → RungAt P S v on more (other side) side (turn_world w side payload lent fault)
-          by true g = subst (RungAt P S v on more (other side) side) (sym (turn-is-after P S v on power-ok Slot-ok w real side payload lent fault g)) (rung-theirs P S v on power-ok Slot-ok w real side payload lent fault g more y)
+          by true g = subst (RungAt P S v on more (other side) side) (sym (turn-is-after P S v on power-ok slot-ok w real side payload lent fault g)) (rung-theirs P S v on power-ok slot-ok w real side payload lent fault g more y)
           by false g = subst (RungAt P S v on more (other side) side) (sym (turn-refused w side payload lent fault g)) y
 
   -- whoever waits, and whoever moves
@@ -159,7 +159,7 @@ module _ (P S v : ℕ) (on : Bool) where
   no_more : (more : ℕ) (σ : Side) (w : World) → Rung more σ w → Rung (more + 0) σ w
   no_more more σ w y o = omega (arith, y o)
 
-  module _ (power-ok : power_ok P ≡ true) (Slot-ok : slot_ok S ≡ true) (more : ℕ) where
+  module _ (power-ok : power_ok P ≡ true) (slot-ok : slot_ok S ≡ true) (more : ℕ) where
     called : (w : World) (σ side : Side) (q : Party) (d : ℕ) → Changed side (party_in w side) q → Adds side (party_in w side) q d → Rung more σ w
         → Rung (more + pick (same_side (other σ) side) d 0) σ (seated P S v on w side q)
     called w Sender Sender q d c a y = no_more more Sender (seated P S v on w Sender q) (called-mine w Sender q c more y)
@@ -175,20 +175,20 @@ module _ (P S v : ℕ) (on : Bool) where
     called-idly w Recorder Recorder q c a y = no_more more Recorder (seated P S v on w Recorder q) (called-mine w Recorder q c more y)
 
     turned : (w : World) → Real P S v on w → (σ side : Side) (payload lent : List ℕ) (fault : Fault) → Rung more σ w → Rung more σ (turn_world w side payload lent fault)
-    turned w real Sender Sender payload lent fault y = turned-mine power-ok Slot-ok w real Sender payload lent fault more y
-    turned w real Sender Recorder payload lent fault y = turned-theirs power-ok Slot-ok w real Recorder payload lent fault more y
-    turned w real Recorder Sender payload lent fault y = turned-theirs power-ok Slot-ok w real Sender payload lent fault more y
-    turned w real Recorder Recorder payload lent fault y = turned-mine power-ok Slot-ok w real Recorder payload lent fault more y
+    turned w real Sender Sender payload lent fault y = turned-mine power-ok slot-ok w real Sender payload lent fault more y
+    turned w real Sender Recorder payload lent fault y = turned-theirs power-ok slot-ok w real Recorder payload lent fault more y
+    turned w real Recorder Sender payload lent fault y = turned-theirs power-ok slot-ok w real Sender payload lent fault more y
+    turned w real Recorder Recorder payload lent fault y = turned-mine power-ok slot-ok w real Recorder payload lent fault more y
 
-    joins : (w : World) (real : Real P S v on w) (σ side : Side) (spins : ℕ) → Rung more σ w → Rung more σ (attach_world P S v on power-ok Slot-ok w real side spins)
-    joins w real Sender Sender spins y = attached-mine power-ok Slot-ok w real Sender spins more y
-    joins w real Sender Recorder spins y = attached-theirs power-ok Slot-ok w real Recorder spins more y
-    joins w real Recorder Sender spins y = attached-theirs power-ok Slot-ok w real Sender spins more y
-    joins w real Recorder Recorder spins y = attached-mine power-ok Slot-ok w real Recorder spins more y
+    joins : (w : World) (real : Real P S v on w) (σ side : Side) (spins : ℕ) → Rung more σ w → Rung more σ (attach_world P S v on power-ok slot-ok w real side spins)
+    joins w real Sender Sender spins y = attached-mine power-ok slot-ok w real Sender spins more y
+    joins w real Sender Recorder spins y = attached-theirs power-ok slot-ok w real Recorder spins more y
+    joins w real Recorder Sender spins y = attached-theirs power-ok slot-ok w real Sender spins more y
+    joins w real Recorder Recorder spins y = attached-mine power-ok slot-ok w real Recorder spins more y
 
     rung-happens : (σ : Side) (h : Happening) (w : World) → Typed h → Real P S v on w → Rung more σ w → Rung (more + parting (other σ) h) σ (happens h w)
     unfolding happens played played_leaves settled
-    rung-happens σ (attaches side spins) w t real y = no_more more σ (attach_world P S v on power-ok Slot-ok w real side spins) (joins w real σ side spins y)
+    rung-happens σ (attaches side spins) w t real y = no_more more σ (attach_world P S v on power-ok slot-ok w real side spins) (joins w real σ side spins y)
     rung-happens σ (plays (Turn side) i o) w t real y = no_more more σ (turn_world w side i o Fine) (turned w real σ side i o Fine y)
     rung-happens σ (plays (Failing side e) i o) w t real y = no_more more σ (turn_world w side i o (Error e)) (turned w real σ side i o (Error e) y)
     rung-happens σ (plays (Spurious side) i o) w t real y = called-idly w σ side (spurious_spec side (party_in w side)).party (spurious-changes side (party_in w side)) (spurious-adds side (party_in w side)) y
@@ -198,12 +198,12 @@ module _ (P S v : ℕ) (on : Bool) where
     rung-happens σ (plays (Close side) i o) w t real y = called w σ side (close_spec side (party_in w side)).party 1 (close-changes side (party_in w side)) (close-adds side (party_in w side)) y
     rung-happens σ (plays (Shutdown side) i o) w t real y = called w σ side (shut_spec side (party_in w side)).party 1 (shut-changes side (party_in w side)) (shut-adds side (party_in w side)) y
 
-  module _ (power-ok : power_ok P ≡ true) (Slot-ok : slot_ok S ≡ true) (σ : Side) where
+  module _ (power-ok : power_ok P ≡ true) (slot-ok : slot_ok S ≡ true) (σ : Side) where
     pub rung-run : (hs : List Happening) (w : World) (more : ℕ) → AllTyped hs → Real P S v on w → Rung more σ w → Rung (more + partings (other σ) hs) σ (run hs w)
     unfolding run
     rung-run [] w more t real y = no_more more σ w y
     rung-run (h ∷ hs) w more t real y = λ o.
-        omega (arith, rung-run hs (happens h w) (more + parting (other σ) h) t.1 (real-happens P S v on power-ok Slot-ok h w t.0 real) (rung-happens power-ok Slot-ok more σ h w t.0 real y) o)
+        omega (arith, rung-run hs (happens h w) (more + parting (other σ) h) t.1 (real-happens P S v on power-ok slot-ok h w t.0 real) (rung-happens power-ok slot-ok more σ h w t.0 real y) o)
 
     -- the waiter's own turns are asked nothing that does not hold
     timely : (w : World) (more : ℕ) → Rung more σ w → 2 + more < 2 ^ 32 → (e : ℕ) → (party_in w σ).step ≡ Wait e → rung_of σ w.trace < 2 ^ 32
@@ -228,12 +228,12 @@ module _ (P S v : ℕ) (on : Bool) where
   fair-one σ (plays (Close side) i o) w f l = tt
   fair-one σ (plays (Shutdown side) i o) w f l = tt
 
-  pub fair-run : (power-ok : power_ok P ≡ true) (Slot-ok : slot_ok S ≡ true) (σ : Side) (hs : List Happening) (w : World) (more : ℕ) → AllTyped hs → Real P S v on w → Rung more σ w
+  pub fair-run : (power-ok : power_ok P ≡ true) (slot-ok : slot_ok S ≡ true) (σ : Side) (hs : List Happening) (w : World) (more : ℕ) → AllTyped hs → Real P S v on w → Rung more σ w
       → 2 + (more + partings (other σ) hs) < 2 ^ 32 → AllLand σ hs w → AllFair σ hs w
-  fair-run power-ok Slot-ok σ [] w more t real y few l = tt
-  fair-run power-ok Slot-ok σ (h ∷ hs) w more t real y few l = (
-    fair-one σ h w (timely power-ok Slot-ok σ w more y (omega arith)) l.0,
-    fair-run power-ok Slot-ok σ hs (happens h w) (more + parting (other σ) h) t.1 (real-happens P S v on power-ok Slot-ok h w t.0 real) (rung-happens power-ok Slot-ok more σ h w t.0 real y) (omega arith) l.1,
+  fair-run power-ok slot-ok σ [] w more t real y few l = tt
+  fair-run power-ok slot-ok σ (h ∷ hs) w more t real y few l = (
+    fair-one σ h w (timely power-ok slot-ok σ w more y (omega arith)) l.0,
+    fair-run power-ok slot-ok σ hs (happens h w) (more + parting (other σ) h) t.1 (real-happens P S v on power-ok slot-ok h w t.0 real) (rung-happens power-ok slot-ok more σ h w t.0 real y) (omega arith) l.1,
   )
 
 module _ (r : List ℕ) (P S : ℕ) (on : Bool) (v : ℕ) (fresh : Fresh r P S on v) where

@@ -148,7 +148,7 @@ lent_fits Publishing side n = refl
 lent_fits Closing side n = refl
 lent_fits Moving side n = refl
 
-module _ (P S v : ℕ) (on : Bool) (power-ok : power_ok P ≡ true) (Slot-ok : slot_ok S ≡ true) (w : World) (real : Real P S v on w) (sized : Sized w) (side : Side) (here : (party_in w side).own.attached ≡ true) where
+module _ (P S v : ℕ) (on : Bool) (power-ok : power_ok P ≡ true) (slot-ok : slot_ok S ≡ true) (w : World) (real : Real P S v on w) (sized : Sized w) (side : Side) (here : (party_in w side).own.attached ≡ true) where
   own-here : (party_in w side).own ≡ sizes P S v on side (party_in w side).own.spins
   own-here = ((real.sides side).seat.in_place here).0
 
@@ -156,7 +156,7 @@ module _ (P S v : ℕ) (on : Bool) (power-ok : power_ok P ≡ true) (Slot-ok : s
   unfolding sound
   sound-here =
       let f : length_ok side (party_in w side).length S ≡ true = subst (λ (o : Own). length_ok side (party_in w side).length o.slot ≡ true) own-here (fits-here w side sized) in
-      rw ((real.sides side).seat.few, own-here, same-side side, power-ok, Slot-ok, f)
+      rw ((real.sides side).seat.few, own-here, same-side side, power-ok, slot-ok, f)
 
   -- and its turn is taken
   pub takes-here : takes w side (blank_of (party_in w side).length) (blank_of (party_in w side).length) Fine ≡ true

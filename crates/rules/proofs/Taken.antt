@@ -69,7 +69,7 @@ module _ (w : World) (side : Side) (payload lent : List ℕ) (fault : Fault) whe
     tests : goes side p (length w.region) (length payload) (length lent) fault ≡ true
     tests = g
 
-    is-sound : sound side p ≡ true
+    pub is-sound : sound side p ≡ true
     unfolding goes
     is-sound = and_left (sound side p) _ tests
 

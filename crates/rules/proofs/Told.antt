@@ -56,7 +56,7 @@ stage-moves zero = refl
 stage-moves (suc zero) = refl
 stage-moves (suc (suc n)) = refl
 
-module _ (P S v : ℕ) (on : Bool) (power-ok : power_ok P ≡ true) (Slot-ok : slot_ok S ≡ true) where
+module _ (P S v : ℕ) (on : Bool) (power-ok : power_ok P ≡ true) (slot-ok : slot_ok S ≡ true) where
   record Stage (n : ℕ) (w : World) : Type 0 where
     real : Real P S v on w
     none : room_in P S v on Recorder w.trace ≡ 0
@@ -76,16 +76,16 @@ module _ (P S v : ℕ) (on : Bool) (power-ok : power_ok P ≡ true) (Slot-ok : s
     value = value_of w.region p.own (next_spec p)
 
     abbrev next : Step
-    next = next-step P S v on power-ok Slot-ok w d.real Recorder payload lent Fine g
+    next = next-step P S v on power-ok slot-ok w d.real Recorder payload lent Fine g
 
     abbrev after : World
-    after = after_turn P S v on power-ok Slot-ok w d.real Recorder payload lent Fine g
+    after = after_turn P S v on power-ok slot-ok w d.real Recorder payload lent Fine g
 
     told_at : (u : Step) → s ≡ u
         → Tells p.own (sight_at P S v on Recorder p.own w.region w.trace p.blocking) p.counter value u
     told_at u e =
         subst (λ (x : Step). Tells p.own (sight_at P S v on Recorder p.own w.region w.trace p.blocking) p.counter value x) e
-        (tells-here P S v on power-ok Slot-ok w d.real Recorder payload lent Fine g)
+        (tells-here P S v on power-ok slot-ok w d.real Recorder payload lent Fine g)
 
     step-at : (u : Step) → s ≡ u → next ≡ step_after (move_at u p.own p.counter p.blocking p.length value 0) u
     unfolding move_of
@@ -95,7 +95,7 @@ module _ (P S v : ℕ) (on : Bool) (power-ok : power_ok P ≡ true) (Slot-ok : s
     unfolding look_move gate_move
     leads-on zero e h =
         let seen : door_of p.own.side value ≡ Left = told_at Gate e ∙ d.left in
-        step-at Gate e ∙ rw seen (ap (λ (o : Own). step_after (left_move o.side) Gate) (own_is P S v on power-ok Slot-ok w d.real Recorder payload lent Fine g))
+        step-at Gate e ∙ rw seen (ap (λ (o : Own). step_after (left_move o.side) Gate) (own_is P S v on power-ok slot-ok w d.real Recorder payload lent Fine g))
     leads-on (suc zero) e h =
         let seen : room_here p.own p.counter value ≡ Blocked = told_at Look e ∙ ap as_room d.none in
         step-at Look e ∙ rw (seen, d.blocking) refl
@@ -106,12 +106,12 @@ module _ (P S v : ℕ) (on : Bool) (power-ok : power_ok P ≡ true) (Slot-ok : s
 
   turn : (n : ℕ) (w : World) → Stage (suc n) w → (payload lent : List ℕ) → takes w Recorder payload lent Fine ≡ true → Stage n (turn_world w Recorder payload lent Fine)
   turn n w d payload lent g =
-      let me = mover-is P S v on power-ok Slot-ok w d.real Recorder payload lent Fine g in
-      let still = flags-same P S v on power-ok Slot-ok w d.real Recorder payload lent Fine g (ap sets_none d.at ∙ stage-sets-none (suc n)) in
-      subst (Stage n) (sym (turn-is-after P S v on power-ok Slot-ok w d.real Recorder payload lent Fine g))
+      let me = mover-is P S v on power-ok slot-ok w d.real Recorder payload lent Fine g in
+      let still = flags-same P S v on power-ok slot-ok w d.real Recorder payload lent Fine g (ap sets_none d.at ∙ stage-sets-none (suc n)) in
+      subst (Stage n) (sym (turn-is-after P S v on power-ok slot-ok w d.real Recorder payload lent Fine g))
       (record {
-        real = real-after P S v on power-ok Slot-ok w d.real Recorder payload lent Fine g;
-        none = none_after P S v on power-ok Slot-ok w d.real Recorder payload lent Fine g d.none;
+        real = real-after P S v on power-ok slot-ok w d.real Recorder payload lent Fine g;
+        none = none_after P S v on power-ok slot-ok w d.real Recorder payload lent Fine g d.none;
         left = ap (door_of Recorder) still ∙ d.left;
         blocking = ap (λ (q : Party). q.blocking) me ∙ d.blocking;
         at = ap (λ (q : Party). q.step) me ∙ leads-on w (suc n) d payload lent g n d.at (omega (arith, d.few));
@@ -127,9 +127,9 @@ module _ (r : List ℕ) (P S : ℕ) (on : Bool) (v : ℕ) (fresh : Fresh r P S o
   told-closed hs ms t none down closed look blocking turns two payload lent =
       let w = reached r P S on v hs in
       let power-ok = power-fits r P S on v fresh in
-      let Slot-ok = slot-fits r P S on v fresh in
-      let start : Stage P S v on power-ok Slot-ok 2 w = record { real = real-reached r P S on v fresh hs t; none = sym (waiting-is r P S on v fresh hs t) ∙ none; left = rw (down, closed) refl; blocking = blocking; at = look; few = omega arith } in
+      let slot-ok = slot-fits r P S on v fresh in
+      let start : Stage P S v on power-ok slot-ok 2 w = record { real = real-reached r P S on v fresh hs t; none = sym (waiting-is r P S on v fresh hs t) ∙ none; left = rw (down, closed) refl; blocking = blocking; at = look; few = omega arith } in
       let e : 2 ≡ ticks ms w + 0 = omega (arith, two) in
-      let last = counted-off Recorder (Stage P S v on power-ok Slot-ok) (λ n. moving P S v on power-ok Slot-ok (suc n)) (turn P S v on power-ok Slot-ok) (moving P S v on power-ok Slot-ok 0) ms w turns 0 (subst (λ (k : ℕ). Stage P S v on power-ok Slot-ok k w) e start) in
+      let last = counted-off Recorder (Stage P S v on power-ok slot-ok) (λ n. moving P S v on power-ok slot-ok (suc n)) (turn P S v on power-ok slot-ok) (moving P S v on power-ok slot-ok 0) ms w turns 0 (subst (λ (k : ℕ). Stage P S v on power-ok slot-ok k w) e start) in
       subst (λ (u : World). takes u Recorder payload lent Fine ≡ true → (turn_spec Recorder u.region (party_in u Recorder) payload lent Fine).answer ≡ Closed) (sym (run-parts hs ms (opened (created r P S on v))))
-      (told-last P S v on power-ok Slot-ok (run ms w) last payload lent)
+      (told-last P S v on power-ok slot-ok (run ms w) last payload lent)

@@ -121,6 +121,15 @@ sleeping-step s e = by s (view s) e
     by s asleep e = refl
     by s (elsewhere a w) e = absurd (let f = sym e ∙ (acting-moves (stance_of s) a).1.1 in let z : ◌≡◌ {A = ℕ} 0 1 = cc in omega arith)
 
+pub copying-step : (s : Step) → stance_of s ≡ Copying → s ≡ Copy
+copying-step s e = by s (view s) e
+  where
+    by : (s : Step) → View s → stance_of s ≡ Copying → s ≡ Copy
+    by s at_rest e = absurd (let z : ◌≡◌ {A = ℕ} 0 1 = cc in omega arith)
+    by s at_copy e = refl
+    by s asleep e = absurd (let z : ◌≡◌ {A = ℕ} 0 1 = cc in omega arith)
+    by s (elsewhere a w) e = absurd (let f = rw e at a in let z : ◌≡◌ {A = ℕ} 0 1 = cc in omega arith)
+
 pub asleep-step : (s : Step) → phase s ≡ sleeps → s ≡ Asleep
 asleep-step s e = by s (view s) e
   where
@@ -138,3 +147,12 @@ is-copy s = by s (view s)
     by s at_copy = inl refl
     by s asleep = inr (λ e. let z : ◌≡◌ {A = ℕ} 0 1 = cc in omega arith)
     by s (elsewhere a w) = inr (λ e. let f = sym a ∙ ap (λ (u : Step). acting (stance_of u)) e in let z : ◌≡◌ {A = ℕ} 0 1 = cc in omega arith)
+
+pub is-asleep : (s : Step) → (s ≡ Asleep) ⊎ (s ≡ Asleep → ⊥)
+is-asleep s = by s (view s)
+  where
+    by : (s : Step) → View s → (s ≡ Asleep) ⊎ (s ≡ Asleep → ⊥)
+    by s at_rest = inr (λ e. let z : ◌≡◌ {A = ℕ} 0 1 = cc in omega arith)
+    by s at_copy = inr (λ e. let z : ◌≡◌ {A = ℕ} 0 1 = cc in omega arith)
+    by s asleep = inl refl
+    by s (elsewhere a w) = inr (λ e. let f = sym w ∙ ap (λ (u : Step). awake (phase u)) e in let z : ◌≡◌ {A = ℕ} 0 1 = cc in omega arith)

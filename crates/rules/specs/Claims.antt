@@ -14,16 +14,18 @@ use Rattle.types.specs.declared.Event.{Event}
 use Rattle.types.specs.declared.Event.TheVariants.{Turn, Failing}
 use Rattle.types.specs.declared.Answer.TheVariants.{Done, Closed, Timeout, Begun, Nothing}
 use Rattle.layout.specs.Limits.{capacity, payload_capacity}
-use Rattle.layout.specs.Header.{counter_at, bell_at}
+use Rattle.layout.specs.Flags.{worth, bit_on, attach_mark}
+use Rattle.layout.specs.Header.{flags_at, counter_at, bell_at}
 use Rattle.layout.specs.Create.{create_answer, created}
+use Rattle.layout.specs.Attach.{attach_answer}
 use Rattle.rules.specs.Sides.{other, sleep_bell}
 use Rattle.types.specs.declared.Party.{Party}
 use Rattle.rules.specs.Calls.{sound, at, named, push_spec, pop_spec, close_spec, shut_spec}
 use Rattle.rules.specs.Turn.{turn_spec}
 use Rattle.rules.specs.Bench.{played}
-use Rattle.rules.specs.Run.{Note, Trace, World, Happening, plays, party_in, takes, happens, run, opened}
+use Rattle.rules.specs.Run.{Note, Trace, World, Happening, attaches, plays, party_in, takes, happens, run, opened}
 use Rattle.rules.specs.Premises.{AllTyped, AllFair, AllLand, rung, partings, Quiet, down, closed_bit}
-use Rattle.rules.specs.Stretch.{moves, calling, ticks_by, ticks, beats, OwnDoing, AllOwn, Willing, in_call, notes_of, holds_epoch, Underway, in_wait, Turns}
+use Rattle.rules.specs.Stretch.{moves, calling, ticks_by, ticks, beats, OwnDoing, AllOwn, Willing, in_call, notes_of, holds_epoch, Underway, in_wait, Turns, slack}
 
 -- how many notes wait: head − tail, in the region's bytes
 abbrev pub waiting : World → ℕ
@@ -79,6 +81,22 @@ CloseBegins side p = sound side p ≡ true → p.step ≡ Rest → p.closed ≡ 
 
 abbrev pub ShutBegins : Side → Party → Type 0
 ShutBegins side p = sound side p ≡ true → p.step ≡ Rest → shut_spec side p ≡ record { party = at (ShutSet false) p; answer = Begun }
+
+-- stronger than these four: the record that it then is, field by field, and not by `named` and `at`
+abbrev pub PushBeginsAs : Party → Type 0
+PushBeginsAs p = sound Sender p ≡ true → p.step ≡ Rest → p.closed ≡ false → (blocking : Bool) (tag length : ℕ)
+    → (blocking && not p.own.notfull) ≡ false → length ≤ payload_capacity p.own.slot
+    → push_spec p blocking tag length ≡ record { party = record { own = p.own; closed = p.closed; counter = p.counter; blocking = blocking; tag = tag; length = length; step = Look }; answer = Begun }
+
+abbrev pub PopBeginsAs : Party → Type 0
+PopBeginsAs p = sound Recorder p ≡ true → p.step ≡ Rest → p.closed ≡ false → (blocking : Bool) (length : ℕ)
+    → pop_spec p blocking length ≡ record { party = record { own = p.own; closed = p.closed; counter = p.counter; blocking = blocking; tag = 0; length = length; step = Look }; answer = Begun }
+
+abbrev pub CloseBeginsAs : Side → Party → Type 0
+CloseBeginsAs side p = sound side p ≡ true → p.step ≡ Rest → p.closed ≡ false → close_spec side p ≡ record { party = record { own = p.own; closed = p.closed; counter = p.counter; blocking = p.blocking; tag = p.tag; length = p.length; step = CloseSet }; answer = Begun }
+
+abbrev pub ShutBeginsAs : Side → Party → Type 0
+ShutBeginsAs side p = sound side p ≡ true → p.step ≡ Rest → shut_spec side p ≡ record { party = record { own = p.own; closed = p.closed; counter = p.counter; blocking = p.blocking; tag = p.tag; length = p.length; step = ShutSet false }; answer = Begun }
 
 -- the claims, for a ring of any sizes that create accepts, either option, any start value, over any region
 module _ (region : List ℕ) (power slot : ℕ) (notfull : Bool) (start : ℕ) where
@@ -137,6 +155,13 @@ module _ (region : List ℕ) (power slot : ℕ) (notfull : Bool) (start : ℕ) w
   abbrev pub BoundedTicks : Side → Type 0
   BoundedTicks side = (hs ms : List Happening) → Willed side hs ms → 4 * room side (capacity power) (reached hs) + 3 ≤ ticks ms (reached hs) → Emptied side hs ms
 
+  -- stronger than `BoundedTicks`: the other stands anywhere in a call, and does not move (it may have died there); and `slack`, by its room, for the 3
+  abbrev pub Dead : Side → (hs ms : List Happening) → Type 0
+  Dead side hs ms = AllTyped (hs ++ ms) × ((in_call (party_in (reached hs) side).step ≡ true) × Willing side ms (reached hs))
+
+  abbrev pub BoundedTicksDead : Side → Type 0
+  BoundedTicksDead side = (hs ms : List Happening) → Dead side hs ms → 4 * room side (capacity power) (reached hs) + slack (room (other side) (capacity power) (reached hs)) ≤ ticks ms (reached hs) → Emptied side hs ms
+
   -- .. and, on a run that is fair to it, of its turns in a call, those it sleeps through counted too: it does not sleep over room
   abbrev pub Going : Side → (hs ms : List Happening) → Type 0
   Going side hs ms = Willed side hs ms × AllFair side (hs ++ ms) (opened (created region power slot notfull start))
@@ -146,6 +171,13 @@ module _ (region : List ℕ) (power slot : ℕ) (notfull : Bool) (start : ℕ) w
 
   abbrev pub Bounded : Side → Type 0
   Bounded side = (hs ms : List Happening) → Alone side hs ms → Emptied side hs ms
+
+  -- stronger than `Alone` and `Bounded`: `slack`, by the room of the other, for the 3
+  abbrev pub AloneBySlack : Side → (hs ms : List Happening) → Type 0
+  AloneBySlack side hs ms = Going side hs ms × (4 * room side (capacity power) (reached hs) + slack (room (other side) (capacity power) (reached hs)) ≤ beats ms (reached hs))
+
+  abbrev pub BoundedBySlack : Side → Type 0
+  BoundedBySlack side = (hs ms : List Happening) → AloneBySlack side hs ms → Emptied side hs ms
 
   -- either way every note that was sent has then been delivered
   abbrev pub GetsAll : Type 0
@@ -175,6 +207,10 @@ module _ (region : List ℕ) (power slot : ℕ) (notfull : Bool) (start : ℕ) w
   -- by document 01's turns, whatever wakes and bells do; and, on a run that is fair to it, with those it sleeps through
   abbrev pub EndsTicks : Side → Type 0
   EndsTicks side = (hs ms : List Happening) (n : ℕ) → AllTyped (hs ++ ms) → Stopped side hs → Follow side n (reached hs) → AllOwn side ms → stop_turns side n ≤ ticks ms (reached hs) → AtRest moves side n hs ms
+
+  -- stronger than `EndsTicks`: wherever the other stands; it may have died there
+  abbrev pub EndsTicksDead : Side → Type 0
+  EndsTicksDead side = (hs ms : List Happening) (n : ℕ) → AllTyped (hs ++ ms) → (down (reached hs) || closed_bit (other side) (reached hs)) ≡ true → Follow side n (reached hs) → AllOwn side ms → stop_turns side n ≤ ticks ms (reached hs) → AtRest moves side n hs ms
 
   abbrev pub Ends : Side → Type 0
   Ends side = (hs ms : List Happening) (n : ℕ) → AllTyped (hs ++ ms) → AllFair side (hs ++ ms) (opened (created region power slot notfull start))
@@ -239,3 +275,18 @@ module _ (region : List ℕ) (power slot : ℕ) (notfull : Bool) (start : ℕ) w
   -- T8, on a run: whoever is attached has a sound record
   abbrev pub Sound : Side → Type 0
   Sound side = (hs : List Happening) → AllTyped hs → (party_in (reached hs) side).own.attached ≡ true → sound side (party_in (reached hs) side) ≡ true
+
+  -- and has the ring's sizes and option and its own counter, as they stand in the region; it is attached and closed as its bits say: one's own
+  -- close counts from the turn that sets its bit
+  abbrev pub OwnCopy : Side → Type 0
+  OwnCopy side = (hs : List Happening) → AllTyped hs
+      → ((party_in (reached hs) side).own.attached ≡ bit_on (worth (attach_mark side)) (le_at 4 (reached hs).region flags_at))
+      × (((party_in (reached hs) side).closed ≡ closed_bit side (reached hs))
+      × ((party_in (reached hs) side).own.attached ≡ true
+      → ((party_in (reached hs) side).own ≡ record { side = side; attached = true; power = power; slot = slot; notfull = notfull; spins = (party_in (reached hs) side).own.spins })
+      × ((party_in (reached hs) side).counter ≡ le_at 8 (reached hs).region (counter_at side))))
+
+  -- and its spin count is the one that its attach named, for good
+  abbrev pub SpinsNamed : Side → Type 0
+  SpinsNamed side = (hs : List Happening) (spins : ℕ) → AllTyped hs → attach_answer (reached hs).region side spins ≡ Done 0 0
+      → (ms : List Happening) → AllTyped ms → (party_in (reached (hs ++ (attaches side spins ∷ ms))) side).own.spins ≡ spins

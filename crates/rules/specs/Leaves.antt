@@ -1,5 +1,9 @@
 -- What each answer leaves behind: document 01's paragraph under its table of answers.
-use Rattle.std.specs.Prelude.{◌≡◌}
+use Rattle.std.specs.Prelude.{◌≡◌, List, ℕ}
+use Rattle.types.specs.declared.Bench.{Bench}
+use Rattle.types.specs.declared.Fault.TheVariants.{Fine, Error}
+use Rattle.types.specs.declared.Event.{Event}
+use Rattle.types.specs.declared.Event.TheVariants.{Turn, Failing, Spurious, TimeOut, Push, Pop, Close, Shutdown as Shut}
 use Rattle.types.specs.declared.Step.TheVariants.{Rest}
 use Rattle.types.specs.declared.Woke.TheVariants.{Nobody}
 use Rattle.types.specs.declared.Answer.{Answer}
@@ -8,6 +12,7 @@ use Rattle.layout.specs.Create.{create_leaves}
 use Rattle.layout.specs.Attach.{unattached, attach_reply, attach_leaves}
 use Rattle.rules.specs.Calls.{push_spec, pop_spec, close_spec, shut_spec, spurious_spec, timeout_spec}
 use Rattle.rules.specs.Turn.{turn_spec, turn_leaves, turn_buffer}
+use Rattle.rules.specs.Bench.{party_of, played, played_leaves, played_buffer}
 use Rattle.rules.specs.Given.{Ask, create, attach, push, pop, close, shutdown, spurious, timeout, turn, answered}
 
 -- no byte of the region or of a buffer changes; most calls are lent none
@@ -78,3 +83,41 @@ Leaves GoesOn a = Unit
 -- the law of refusals
 abbrev pub LeavesAll : Type 0
 LeavesAll = (a : Ask) → Leaves (answered a) a
+
+-- stronger than `Leaves` at 7 and 17: no byte changes there either
+abbrev pub LeavesKept : Answer → Ask → Type 0
+LeavesKept CorruptIndices a = BytesKept a × AtRest a
+LeavesKept (Syscall op e) a = BytesKept a × AtRest a
+LeavesKept x a = Leaves x a
+
+abbrev pub LeavesAllKept : Type 0
+LeavesAllKept = (a : Ask) → LeavesKept (answered a) a
+
+-- what an event asks of a bench
+abbrev pub ask_of : (region : List ℕ) → Bench → (payload buffer : List ℕ) → Event → Ask
+ask_of r b i o (Turn side) = turn side r (party_of b side) i o Fine
+ask_of r b i o (Failing side error) = turn side r (party_of b side) i o (Error error)
+ask_of r b i o (Spurious side) = spurious side (party_of b side)
+ask_of r b i o (TimeOut side) = timeout side (party_of b side)
+ask_of r b i o (Push blocking tag length) = push b.sender blocking tag length
+ask_of r b i o (Pop blocking length) = pop b.recorder blocking length
+ask_of r b i o (Close side) = close side (party_of b side)
+ask_of r b i o (Shut side) = shutdown side (party_of b side)
+
+-- what that leaves of the region and of the buffer: a turn alone changes any byte
+abbrev pub AsAsk : (region buffer : List ℕ) → (leaves given : List ℕ) → Ask → Type 0
+AsAsk r o leaves given (create r' power slot notfull start) = ⊥
+AsAsk r o leaves given (attach r' side spins) = ⊥
+AsAsk r o leaves given (push p blocking tag length) = (leaves ≡ r) × (given ≡ o)
+AsAsk r o leaves given (pop p blocking length) = (leaves ≡ r) × (given ≡ o)
+AsAsk r o leaves given (close side p) = (leaves ≡ r) × (given ≡ o)
+AsAsk r o leaves given (shutdown side p) = (leaves ≡ r) × (given ≡ o)
+AsAsk r o leaves given (spurious side p) = (leaves ≡ r) × (given ≡ o)
+AsAsk r o leaves given (timeout side p) = (leaves ≡ r) × (given ≡ o)
+AsAsk r o leaves given (turn side s p i b f) = (leaves ≡ turn_leaves side s p i b f) × (given ≡ turn_buffer side s p i b f)
+
+-- so the table and this law hold of what a bench plays
+abbrev pub BenchAsks : Type 0
+BenchAsks = (r : List ℕ) (b : Bench) (payload buffer : List ℕ) (e : Event)
+    → ((played r b payload buffer e).answer ≡ answered (ask_of r b payload buffer e))
+    × AsAsk r buffer (played_leaves r b payload buffer e) (played_buffer r b payload buffer e) (ask_of r b payload buffer e)

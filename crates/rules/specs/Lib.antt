@@ -16,3 +16,9 @@ pub mod Phase
 pub mod Premises
 pub mod Stretch
 pub mod Claims
+pub mod Rows
+pub mod Both
+pub mod Asked
+pub mod Grounds
+pub mod Anywhere
+pub mod Meaning

@@ -1,5 +1,5 @@
 -- A stretch of one party's own doings: its turns counted, its will, and what it has published.
-use Rattle.std.specs.Prelude.{◌≡◌, Bool, true, false, ◌&&◌, List, [], ◌∷◌, ◌++◌, ℕ, ◌+◌, ◌^◌, ◌<◌, ◌≤◌, length}
+use Rattle.std.specs.Prelude.{◌≡◌, Bool, true, false, ◌&&◌, List, [], ◌∷◌, ◌++◌, ℕ, zero, suc, ◌+◌, ◌^◌, ◌<◌, ◌≤◌, length}
 use Rattle.types.specs.Pick.{pick}
 use Rattle.types.specs.declared.Side.{Side}
 use Rattle.types.specs.declared.Side.TheVariants.{Sender, Recorder}
@@ -196,3 +196,9 @@ Turns side (plays (Push blocking tag length) payload lent ∷ hs) = ⊥
 Turns side (plays (Pop blocking length) payload lent ∷ hs) = ⊥
 Turns side (plays (Close mover) payload lent ∷ hs) = ⊥
 Turns side (plays (Shutdown mover) payload lent ∷ hs) = ⊥
+
+-- beyond 4 turns a note: by the other's room. 3 where it has none, 2 where it has one, else 1
+abbrev pub slack : (theirs : ℕ) → ℕ
+slack zero = 3
+slack (suc zero) = 2
+slack (suc (suc x)) = 1

@@ -27,7 +27,7 @@ use Rattle.rules.specs.Looks.{room_with, room_of}
 use Rattle.starred.specs.Cases.{Case, accepted, largest, refused, flagged, spinning, overspun, used, corrupt, place, bell, Largest, Spinning, Overspun, CorruptAt, Raised, Holds, AllHold, starred}
 
 -- What is left to compute of each row; the laws do the rest, so the table's sizes stand in the table alone.
-abbrev Shown : Case → Type 0
+abbrev pub Shown : Case → Type 0
 Shown (accepted power slot total payload) = (total_bytes power slot ≡ total) × (payload_capacity slot ≡ payload) × (create_answer total power slot ≡ Done 0 0)
 Shown (largest total payload) = (total_bytes most_power most_slot ≡ total) × (payload_capacity most_slot ≡ payload)
 Shown (refused power slot answer) =
@@ -52,7 +52,7 @@ far head tail h power =
 most : (total payload : ℕ) → total_bytes most_power most_slot ≡ total → payload_capacity most_slot ≡ payload → Largest total payload
 unfolding payload_capacity power_ok slot_ok
 most total payload t p =
-    ((λ power slot power-ok Slot-ok. (rw t at (total-most slot Slot-ok power), omega (arith, slot-most slot Slot-ok))), (most_power, (most_slot, (refl, (refl, (t, p))))))
+    ((λ power slot power-ok slot-ok. (rw t at (total-most slot slot-ok power), omega (arith, slot-most slot slot-ok))), (most_power, (most_slot, (refl, (refl, (t, p))))))
 
 none-spins : spins_ok 0 ≡ true
 unfolding spins_ok
@@ -67,7 +67,7 @@ many spins answer c r side = c (first_of (region_checks r side))
 
 -- What create makes of accepted sizes, attach accepts; a count decides before all the rest, refused sizes before the rest
 -- of the header, and flags last; the start of the counters does not matter.
-shown : (c : Case) → Shown c → Holds c
+pub shown : (c : Case) → Shown c → Holds c
 unfolding room_of
 shown (accepted power slot total payload) (t, p, c) =
     (t, p, c, λ r notfull start side spins long small few. accepted-by r power slot notfull start (rw long c) small side spins few)
@@ -108,11 +108,11 @@ reading-most n e = by (ltb n (2 ^ 31)) e
     by true q = cc
     by false q = absurd (let z : ◌≡◌ {A = ℕ} 0 1 = cc in omega arith)
 
-minus_one : Raised (negsuc 0) (pos 0)
+pub minus_one : Raised (negsuc 0) (pos 0)
 unfolding plus
 minus_one n h e = rw (reading-one n h e)
 
-top : Raised (pos 2147483647) (negsuc 2147483647)
+pub top : Raised (pos 2147483647) (negsuc 2147483647)
 unfolding plus
 top n h e = rw (reading-most n e)
 

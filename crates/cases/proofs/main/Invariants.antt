@@ -1,8 +1,8 @@
-use Rattle.std.proofs.Common.{◌≡◌, ◌-◌, ◌^◌, ◌≤◌, length, arith, length-append, length-drop, rules}
+use Rattle.std.proofs.Common.{◌-◌, ◌^◌, ◌≤◌}
 use Rattle.cases.proofs.main.Given as goal
 
-abbrev pub invariant-loop : goal.invariant-loop
-invariant-loop region₀ payload s₀ reads₀ region s reads = (reads ≤ 2 ^ 62) × (131456 ≡ length region)
+abbrev pub invariant-loop-reads : goal.invariant-loop-reads
+invariant-loop-reads l = l.reads ≤ 2 ^ 62
 
-abbrev pub decreases-loop : goal.decreases-loop
-decreases-loop region₀ payload s₀ reads₀ region s reads = 2 ^ 62 - reads
+abbrev pub decreases-loop-reads : goal.decreases-loop-reads
+decreases-loop-reads l = 2 ^ 62 - l.reads
