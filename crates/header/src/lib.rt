@@ -9,7 +9,7 @@ ghost use Rattle.layout.specs.Header.{major_at, minor_at, header_size_at, total_
 
 use types::{Bell, Mark, Side};
 
-#[derive(Drop)]
+#[derive(Clone, Copy)]
 pub struct Header {}
 
 impl Header {

@@ -51,7 +51,7 @@ pub fn fit_of(head: SlotHead, most: u32, buffer: u32) -> Fit
 }
 
 // The errors of a wait that are told apart.
-#[derive(Drop)]
+#[derive(Clone, Copy)]
 pub struct Error {}
 
 impl Error {

@@ -42,7 +42,7 @@ pub fn play_block(
 }
 
 // A piece is at most as long as this.
-#[derive(Drop)]
+#[derive(Clone, Copy)]
 pub struct Block {}
 
 impl Block {
@@ -51,7 +51,7 @@ impl Block {
 
 // What comes of a piece of a script: both parties, how many bytes of reports there are, and how many bytes at the
 // input's start wait for the next piece.
-#[derive(Drop)]
+#[derive(Clone, Copy)]
 pub struct Fed {
     pub bench: Bench,
     pub told: usize,

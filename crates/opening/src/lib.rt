@@ -7,7 +7,7 @@ ghost use Rattle.opening.specs.Night.{night_of, start};
 use types::{Bench, Side};
 
 // The region that a script is played on.
-#[derive(Drop)]
+#[derive(Clone, Copy)]
 struct Region {}
 
 impl Region {

@@ -7,7 +7,7 @@ ghost use Rattle.records.specs.Records.{record_bytes, action_of, side_of, when, 
 use types::{Event, Side};
 
 // Where the fields of a record lie, and of a report.
-#[derive(Drop)]
+#[derive(Clone, Copy)]
 pub struct Record {}
 
 impl Record {
@@ -29,7 +29,7 @@ impl Record {
 }
 
 // What a pair of kinds asks of the side that it names. Move is a push or a pop.
-#[derive(Drop)]
+#[derive(Clone, Copy)]
 pub enum Action {
     Turn,
     Spurious,
@@ -42,7 +42,7 @@ pub enum Action {
 }
 
 // What a record asks: an event of the bench, or nothing that is known.
-#[derive(Drop)]
+#[derive(Clone, Copy)]
 pub enum Asked {
     Plays(Event),
     Bad,

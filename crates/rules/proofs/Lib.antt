@@ -27,6 +27,7 @@ pub mod Heard
 pub mod Own
 pub mod Costs
 pub mod Nearer
+pub mod NearerAmid
 pub mod Effects
 pub mod Woken
 pub mod Listening
@@ -47,6 +48,7 @@ pub mod Dull
 pub mod Night
 pub mod Stopping
 pub mod Ending
+pub mod EndingAmid
 pub mod Delivers
 pub mod Sealed
 pub mod OverNone

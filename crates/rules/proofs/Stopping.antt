@@ -35,7 +35,7 @@ use Rattle.rules.proofs.RealRun.{real-happens}
 use Rattle.rules.proofs.Heard.{room_by}
 use Rattle.rules.proofs.Does.{less}
 use Rattle.rules.proofs.Costs.{own_room}
-use Rattle.rules.proofs.Nearer.{seen, to_rest, room-le, near, nearer}
+use Rattle.rules.proofs.NearerAmid.{seen, to_rest, room-le, near, nearer}
 use Rattle.rules.proofs.Bound.{Count, moves-off}
 use Rattle.rules.proofs.Strides.{sleep-stays}
 use Rattle.rules.proofs.Deeds.{Goes, Stays, Deed, deed, goes, stays}

@@ -1,21 +1,24 @@
 -- T4, and no fewer: the turns that a stopped call takes from a spin, counted.
 use mathlib.Core.Path.{◌≡◌, refl, sym, ap, ◌∙◌, subst}
-use mathlib.Core.Bool.{Bool, true, false}
+use mathlib.Core.Bool.{Bool, true, false, ◌||◌}
 use mathlib.Core.List.{List}
 use Prim.Native.Nat.{ℕ, suc, ◌+◌}
 use native.Mathlib.Omega.{arith}
 use Rattle.words.specs.Le.{le_at}
 use Rattle.types.specs.Pick.{pick}
 use Rattle.types.specs.declared.Side.{Side}
+use Rattle.types.specs.declared.Side.TheVariants.{Sender, Recorder}
 use Rattle.types.specs.declared.Mark.TheVariants.{Shutdown as ShutMark}
 use Rattle.types.specs.declared.Fault.TheVariants.{Fine}
 use Rattle.types.specs.declared.Door.{Door}
+use Rattle.types.specs.declared.Door.TheVariants.{Shut, Left, Open}
 use Rattle.types.specs.declared.Step.{Step}
 use Rattle.types.specs.declared.Step.TheVariants.{Rest}
 use Rattle.layout.specs.Limits.{power_ok, slot_ok}
-use Rattle.layout.specs.Flags.{worth, bit_on}
+use Rattle.layout.specs.Flags.{worth, bit_on, close_mark}
 use Rattle.layout.specs.Header.{flags_at}
 use Rattle.layout.specs.Create.{created}
+use Rattle.rules.specs.Sides.{other}
 use Rattle.rules.specs.Looks.{door_of}
 use Rattle.rules.specs.Take.{stance_of}
 use Rattle.rules.specs.Run.{World, party_in, takes, run, opened}
@@ -33,9 +36,22 @@ use Rattle.rules.proofs.Causes.{room-is}
 use Rattle.rules.proofs.Bound.{none_after}
 use Rattle.rules.proofs.Asks.{run-parts}
 use Rattle.rules.proofs.Nearer.{to_rest, near, stopping, nears}
-use Rattle.rules.proofs.Stopping.{one_more, looks-most, last-is}
+use Rattle.rules.proofs.Ending.{one_more, looks-most}
 use Rattle.rules.proofs.Exactly.{exactly}
 use Rattle.rules.proofs.Real.{room_in, Real}
+
+-- a shutdown spares the last look
+last-is : (side : Side) (flags : ℕ) → (bit_on (worth ShutMark) flags || bit_on (worth (close_mark (other side))) flags) ≡ true
+    → last_at side (door_of side flags) ≡ pick (bit_on (worth ShutMark) flags) 0 (last_looks side)
+unfolding door_of
+last-is side flags e = by side (bit_on (worth ShutMark) flags) (bit_on (worth (close_mark (other side))) flags) e
+  where
+    by : (side : Side) (a c : Bool) → (a || c) ≡ true → last_at side (pick a Shut (pick c Left Open)) ≡ pick a 0 (last_looks side)
+    by Sender true c e = refl
+    by Recorder true c e = refl
+    by Sender false true e = refl
+    by Recorder false true e = refl
+    by side false false e = absurd (let z : ◌≡◌ {A = ℕ} 0 1 = cc in omega arith)
 
 module _ (P S v : ℕ) (on : Bool) (power-ok : power_ok P ≡ true) (slot-ok : slot_ok S ≡ true) where
   -- no room, a flag up, between a spin and the end, so many turns left
@@ -44,16 +60,16 @@ module _ (P S v : ℕ) (on : Bool) (power-ok : power_ok P ≡ true) (slot-ok : s
     room : room_in P S v on side w.trace ≡ 0
     seen : door_of side (le_at 4 w.region flags_at) ≡ door
     at : stopping (party_in w side).step ≡ true
-    left : to_rest (last_at side door) 0 (party_in w side).step 0 ≡ n
+    left : to_rest (last_at side door) (party_in w side).step 0 ≡ n
 
   module _ (side : Side) (door : Door) (up : barred door ≡ true) where
     rested : (w : World) → Stopping side door 0 w → (party_in w side).step ≡ Rest
-    rested w d = (near (last_at side door) 0 (omega (arith, looks-most side door, one_more side)) (party_in w side).step 0).rested (omega (arith, d.left))
+    rested w d = (near (last_at side door) (omega (arith, looks-most side door, one_more side)) (party_in w side).step 0).rested (omega (arith, d.left))
 
     moving : (n : ℕ) (w : World) → Stopping side door (suc n) w → moves (stance_of (party_in w side).step) ≡ true
     moving n w d =
         moves-else (party_in w side).step
-        (λ e. let u : 0 ≡ suc n = sym (ap (λ (x : Step). to_rest (last_at side door) 0 x 0) e) ∙ d.left in omega arith)
+        (λ e. let u : 0 ≡ suc n = sym (ap (λ (x : Step). to_rest (last_at side door) x 0) e) ∙ d.left in omega arith)
         (λ e. let u : true ≡ false = sym d.at ∙ ap stopping e in let z : ◌≡◌ {A = ℕ} 0 1 = cc in omega arith)
 
     module _ (n : ℕ) (w : World) (d : Stopping side door (suc n) w) (payload lent : List ℕ) (g : takes w side payload lent Fine ≡ true) where
@@ -63,9 +79,9 @@ module _ (P S v : ℕ) (on : Bool) (power-ok : power_ok P ≡ true) (slot-ok : s
       abbrev after : World
       after = after_turn P S v on power-ok slot-ok w d.real side payload lent Fine g
 
-      nearer-here : (stopping next ≡ true) × (to_rest (last_at side door) 0 next 0 ≡ less (to_rest (last_at side door) 0 (party_in w side).step 0))
+      nearer-here : (stopping next ≡ true) × (to_rest (last_at side door) next 0 ≡ less (to_rest (last_at side door) (party_in w side).step 0))
       nearer-here =
-          subst (λ (z : Door). (stopping next ≡ true) × (to_rest (last_at side z) 0 next 0 ≡ less (to_rest (last_at side z) 0 (party_in w side).step 0))) d.seen
+          subst (λ (z : Door). (stopping next ≡ true) × (to_rest (last_at side z) next 0 ≡ less (to_rest (last_at side z) (party_in w side).step 0))) d.seen
           (nears _ d.room (ap barred d.seen ∙ up) (party_in w side).step next (leads-here P S v on power-ok slot-ok w d.real side payload lent Fine g) d.at)
 
       stopping-after : Stopping side door n after
@@ -92,7 +108,7 @@ module _ (r : List ℕ) (P S : ℕ) (on : Bool) (v : ℕ) (fresh : Fresh r P S o
       let door = door_of side flags in
       let last = last-is side flags up in
       let start : Stopping P S v on power-ok slot-ok side door (n + 4 + pick (bit_on (worth ShutMark) flags) 0 (last_looks side)) w =
-      record { real = real-reached r P S on v fresh hs t; room = sym (room-is r P S on v fresh side hs t) ∙ none; seen = refl; at = ap stopping at; left = ap (λ (s : Step). to_rest (last_at side door) 0 s 0) at ∙ ap (λ (l : ℕ). n + 4 + l) last } in
+      record { real = real-reached r P S on v fresh hs t; room = sym (room-is r P S on v fresh side hs t) ∙ none; seen = refl; at = ap stopping at; left = ap (λ (s : Step). to_rest (last_at side door) s 0) at ∙ ap (λ (l : ℕ). n + 4 + l) last } in
       let barred-here = stop-barred side flags ∙ up in
       let done = exactly side (Stopping P S v on power-ok slot-ok side door) (moving P S v on power-ok slot-ok side door barred-here) (turn P S v on power-ok slot-ok side door barred-here) ms w turns _ start long in
       (done.0, (done.1.0, (done.1.1.0, (done.1.1.1.0, subst (λ (u : World). (party_in u side).step ≡ Rest) (sym (run-parts hs done.0 (opened (created r P S on v)))) (rested P S v on power-ok slot-ok side door barred-here (run done.0 w) done.1.1.1.1)))))

@@ -6,7 +6,7 @@ ghost use Rattle.std.specs.Prelude.{◌≡◌, true};
 ghost use Rattle.layout.specs.Limits.{power_ok, slot_ok, spins_ok, capacity, payload_capacity, ring_bytes, total_bytes};
 ghost use Rattle.layout.specs.Slots.{slot_at};
 
-#[derive(Drop)]
+#[derive(Clone, Copy)]
 pub struct Limits {}
 
 impl Limits {

@@ -9,7 +9,7 @@ ghost use Rattle.layout.specs.Slots.{head_word, head_of, buffer_put};
 use types::SlotHead;
 
 // Where the fields of a slot lie, from its start on.
-#[derive(Drop)]
+#[derive(Clone, Copy)]
 pub struct Slot {}
 
 impl Slot {
