@@ -160,6 +160,8 @@ pub struct Party {
     pub length: usize,
     /// A wake that a published rule decided on before its store; the mended rules set none.
     pub rings: bool,
+    /// Whether the other has moved since a look, as a wrong rule remembers; the mended rules do not.
+    pub moved: Option<bool>,
     pub step: Step,
 }
 
@@ -178,6 +180,7 @@ impl Party {
             tag: 0,
             length: 0,
             rings: false,
+            moved: None,
             step: Step::Rest,
         }
     }

@@ -155,6 +155,7 @@ fn enter(region: &mut [u8], side: Side, spins: u16) -> Result<Party, Answer> {
         tag: 0,
         length: 0,
         rings: false,
+        moved: None,
         step: Step::Rest,
     })
 }

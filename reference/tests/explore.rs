@@ -4,7 +4,9 @@ use std::collections::HashSet;
 
 use reference::dice::Dice;
 use reference::explore::afterwards::afterwards;
-use reference::explore::bounds::{states, to_no_room, to_rest, to_sleep, Counter, Stretch};
+use reference::explore::bounds::{
+    most_by_slack, states, to_no_room, to_no_room_stopped, to_rest, to_sleep, Counter, Stretch,
+};
 use reference::explore::lost;
 use reference::explore::normal::normal;
 use reference::explore::{needed, Claim, Event, Machine, Meddling, Menu, State, Turns, Walk};
@@ -229,6 +231,48 @@ fn the_bounds_are_kept_without_premises() {
             let narrow = Machine::new(Turns::by::<NarrowBell<1>>(), power, true);
             bounds(narrow, side, Menu::ALL);
             bounds(mended(power, true, 0), side, Menu::ALL);
+        }
+    }
+}
+
+/// T2's number by the other's room is kept and reached with not-full on, with the other stopped at
+/// whatever step. With not-full off no push waits and no pop rings.
+fn bounds_by_slack(mut machine: Machine, side: Side, menu: Menu) {
+    let not_full = machine.start().bench.sender.not_full;
+    let found = states(&mut machine, menu);
+    let capacity = machine.capacity();
+    for k in 1..=capacity {
+        let most = to_no_room_stopped(&mut machine, &found, side, menu, k).turns;
+        let expected = match (not_full, side) {
+            (true, _) => most_by_slack(k, capacity - k),
+            (false, Side::Sender) if capacity - k > 1 => 4 * k as u32,
+            (false, Side::Sender) => most_by_slack(k, capacity - k),
+            (false, Side::Recorder) => 3 * k as u32 + 2,
+        };
+        assert_eq!(
+            most,
+            Some(expected),
+            "capacity {capacity}, {side:?}, k = {k}"
+        );
+    }
+}
+
+#[test]
+fn the_bounds_by_the_others_room_are_reached() {
+    for (power, not_full, spins) in RINGS {
+        for side in SIDES {
+            let menu = Menu::fair(side);
+            bounds_by_slack(mended(power, not_full, spins), side, menu);
+            let time_outs = false;
+            let menu = Menu { time_outs, ..menu };
+            bounds_by_slack(mended(power, not_full, spins), side, menu);
+        }
+    }
+    for power in [1, 2] {
+        for side in SIDES {
+            let narrow = Machine::new(Turns::by::<NarrowBell<1>>(), power, true);
+            bounds_by_slack(narrow, side, Menu::ALL);
+            bounds_by_slack(mended(power, true, 0), side, Menu::ALL);
         }
     }
 }

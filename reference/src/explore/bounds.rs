@@ -32,12 +32,6 @@ pub struct Counter<'a> {
     known: HashMap<State, Option<Most>>,
 }
 
-/// A turn counts where it answers neither 20 nor 253; nothing else is a turn.
-fn counts(event: Event, answer: Answer) -> bool {
-    let turn = matches!(event, Event::Turn(_) | Event::Fails(..));
-    turn && !matches!(answer, Answer::BadCall | Answer::Nothing)
-}
-
 impl<'a> Counter<'a> {
     pub fn new(machine: &'a mut Machine, stretch: Stretch) -> Self {
         Counter {
@@ -68,7 +62,7 @@ impl<'a> Counter<'a> {
         };
         for event in self.stretch.menu.offers_to(state, self.stretch.side) {
             let (after, answer) = self.after(state, event);
-            let turns = self.most(&after)? + u32::from(counts(event, answer));
+            let turns = self.most(&after)? + u32::from(event.counts(answer));
             if most.event.is_none() || turns > most.turns {
                 let event = Some(event);
                 most = Most { turns, event };
@@ -87,7 +81,7 @@ impl<'a> Counter<'a> {
         })) = self.known.get(&state).copied()
         {
             let (after, answer) = self.after(&state, event);
-            if counts(event, answer) {
+            if event.counts(answer) {
                 steps.push(state.step(self.stretch.side));
             }
             state = after;
@@ -128,13 +122,28 @@ pub fn largest<'a>(
 }
 
 /// A party in a push or a pop, or between calls.
-fn in_call(state: &State, side: Side) -> bool {
+pub fn in_call(state: &State, side: Side) -> bool {
     !matches!(state.step(side), Step::Close(_) | Step::Shut { .. })
+}
+
+/// T2's turns beyond four for each note, by the other's room: where it has none, it is rung for the
+/// first note; where it has one, it may have to be rung for that still.
+pub fn slack(theirs: u64) -> u32 {
+    match theirs {
+        0 => 3,
+        1 => 2,
+        _ => 1,
+    }
 }
 
 /// T2's number, which is the same for every spin count: a spin that finds room leads to the copy.
 pub fn most_to_no_room(room: u64) -> u32 {
     4 * room as u32 + 3
+}
+
+/// T2's number by the other's room.
+pub fn most_by_slack(room: u64, theirs: u64) -> u32 {
+    4 * room as u32 + slack(theirs)
 }
 
 /// T4's number. The spins do not see what makes a party stop: the epoch, a look and the flags come
@@ -158,6 +167,18 @@ pub fn most_from_look(spins: u16) -> u32 {
     6 + u32::from(spins)
 }
 
+fn until_no_room(side: Side, menu: Menu) -> Stretch {
+    Stretch {
+        side,
+        menu: Menu {
+            closes: false,
+            shutdowns: false,
+            ..menu
+        },
+        arrived: |state, side| state.room(side) == 0,
+    }
+}
+
 /// T2: the turns of a willing party alone until no room is left, for a room of `room`.
 pub fn to_no_room(
     machine: &mut Machine,
@@ -166,19 +187,24 @@ pub fn to_no_room(
     menu: Menu,
     room: u64,
 ) -> Largest {
-    let stretch = Stretch {
-        side,
-        menu: Menu {
-            closes: false,
-            shutdowns: false,
-            ..menu
-        },
-        arrived: |state, side| state.room(side) == 0,
-    };
     let alone = |state: &&State| {
         state.is_still(side.other()) && in_call(state, side) && state.room(side) == room
     };
-    largest(machine, stretch, states.iter().filter(alone))
+    let alone = states.iter().filter(alone);
+    largest(machine, until_no_room(side, menu), alone)
+}
+
+/// The same with the other stopped at whatever step, for good.
+pub fn to_no_room_stopped(
+    machine: &mut Machine,
+    states: &[State],
+    side: Side,
+    menu: Menu,
+    room: u64,
+) -> Largest {
+    let there = |state: &&State| in_call(state, side) && state.room(side) == room;
+    let there = states.iter().filter(there);
+    largest(machine, until_no_room(side, menu), there)
 }
 
 /// T4: the turns of a party that must stop until its call has ended.
@@ -237,10 +263,5 @@ pub fn to_sleep(
 
 /// All states that a menu leads to.
 pub fn states(machine: &mut Machine, menu: Menu) -> Vec<State> {
-    let walk = Walk {
-        menu,
-        claims: &[],
-        raises: 1,
-    };
-    walk.from_start(machine).states
+    Walk::all(machine, menu).states
 }

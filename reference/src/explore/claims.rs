@@ -54,6 +54,19 @@ pub struct Seen<'a> {
     pub answer: Answer,
 }
 
+impl Seen<'_> {
+    /// Whose note the event publishes.
+    pub fn publishes(&self) -> Option<Side> {
+        if self.after.sent != self.before.sent {
+            Some(Side::Sender)
+        } else if self.after.got != self.before.got {
+            Some(Side::Recorder)
+        } else {
+            None
+        }
+    }
+}
+
 fn in_order(seen: &Seen) -> bool {
     let due = seen.before.got;
     let delivers = seen.after.got != due;

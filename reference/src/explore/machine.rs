@@ -12,7 +12,7 @@ use crate::region;
 use crate::rules::Rules;
 
 /// The largest capacity that a state has room for.
-pub const MOST: usize = 4;
+pub const MOST: usize = 8;
 /// Notes are numbered modulo this. It is far more than there are slots, so that a note of an
 /// earlier lap is never taken for the one that is due.
 pub const NUMBERS: u8 = 64;
@@ -74,6 +74,17 @@ impl Event {
             Event::Pop { .. } => Some(Side::Recorder),
             Event::Meddles(_) => None,
         }
+    }
+
+    /// A turn counts where it answers neither 20 nor 253; nothing else is a turn.
+    pub fn counts(self, answer: Answer) -> bool {
+        let turn = matches!(self, Event::Turn(_) | Event::Fails(..));
+        turn && !matches!(answer, Answer::BadCall | Answer::Nothing)
+    }
+
+    /// Whether a party closes or shuts down by it, which one that is willing does not.
+    pub fn leaves(self, side: Side) -> bool {
+        self == Event::Close(side) || self == Event::Shutdown(side)
     }
 }
 
@@ -265,9 +276,11 @@ impl Machine {
             }
         };
         self.read_back(state);
+        // A wrong rule may give its store up and copy or look again.
+        let stored = !matches!(state.step(side), Step::P1 | Step::P2 | Step::C1 | Step::C2);
         match step {
-            Step::P3 => state.sent = number_after(state.sent, 1),
-            Step::C3 { .. } => state.got = number_after(state.got, 1),
+            Step::P3 if stored => state.sent = number_after(state.sent, 1),
+            Step::C3 { .. } if stored => state.got = number_after(state.got, 1),
             _ => {}
         }
         answer

@@ -93,6 +93,12 @@ impl Menu {
         }
     }
 
+    /// The same for both sides at once.
+    pub const FAIR: Menu = Menu {
+        lands: &[Side::Sender, Side::Recorder],
+        ..Menu::ALL
+    };
+
     fn may_fail(&self, state: &State, bell: Bell) -> bool {
         let sleeper = sleeper(bell);
         let asleep = state.step(sleeper) == Step::Asleep;

@@ -1,6 +1,7 @@
 //! What each premise of the theorems is needed for: a run that breaks a claim without it, or
 //! the numbers that show that it is not needed.
 
+use super::both::CLAIMS;
 use super::claims::Claim;
 use super::machine::{Machine, Turns};
 use super::meddling::Meddling;
@@ -247,7 +248,7 @@ pub const PREMISES: [Premise; 7] = [
 
 fn list() -> Report {
     let mut report = Report::new(String::new());
-    for premise in PREMISES {
+    for premise in PREMISES.iter().chain(&CLAIMS) {
         report.line(&format!("{:<10} {}", premise.name, premise.says));
     }
     report
@@ -259,6 +260,7 @@ pub fn answer(name: &str) -> Option<Report> {
         "list" => Some(list()),
         _ => PREMISES
             .iter()
+            .chain(&CLAIMS)
             .find(|premise| premise.name == name)
             .map(|premise| (premise.told)()),
     }

@@ -60,9 +60,11 @@ fn party(party: &mut Party, tail: u64, got: u8) {
     let step = party.step;
     party.count = party.count.wrapping_sub(tail);
     party.length = 1;
-    party.blocking &= uses_mode(step);
+    // A wrong rule may lead back to a step before, which uses them again.
+    let comes_back = party.moved.is_some() && step != Step::Rest;
+    party.blocking &= uses_mode(step) || comes_back;
     party.rings &= matches!(step, Step::P3 | Step::C3 { .. });
-    party.tag = match uses_note(party.side, step) {
+    party.tag = match uses_note(party.side, step) || comes_back {
         true => u16::from(number_before(party.tag as u8, got)),
         false => 0,
     };

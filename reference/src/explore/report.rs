@@ -2,8 +2,8 @@
 
 use super::afterwards::{afterwards, words};
 use super::claims::Claim;
-use super::machine::{Machine, State};
-use super::search::Walk;
+use super::machine::{Event, Machine, State};
+use super::search::{Explored, Walk};
 use super::story;
 
 pub struct Report {
@@ -38,14 +38,35 @@ impl Report {
             self.well = false;
             return None;
         };
-        let (lines, state) = story::tell(machine, &run.events);
         self.line("A shortest run of this kind:\n");
-        self.line(&lines);
-        self.line(&format!("At the end: {}.", story::stands(&state)));
+        let state = self.story(machine, &run.events);
         self.line(&format!("Broken: {}.", run.claim.name()));
         let for_good = self.later(machine, &state, run.claim);
         let claim = run.claim;
         Some(End { claim, for_good })
+    }
+
+    /// Tells events from the machine's start, and where they lead.
+    pub fn story(&mut self, machine: &mut Machine, events: &[Event]) -> State {
+        let (lines, state) = story::tell(machine, events);
+        self.line(&lines);
+        self.line(&format!("At the end: {}.", story::stands(&state)));
+        state
+    }
+
+    /// Tells a shortest run to the first state of a walk that is as it should not be.
+    pub fn run_to(&mut self, machine: &mut Machine, explored: &Explored, wrong: &[bool]) {
+        match wrong.iter().position(|&wrong| wrong) {
+            Some(place) => {
+                self.line("A shortest run of this kind:\n");
+                self.story(machine, &explored.events_to(place));
+            }
+            None => {
+                let states = explored.states.len();
+                self.line(&format!("No such run: nothing broken in {states} states."));
+                self.well = false;
+            }
+        }
     }
 
     /// Tells what may still come of a sleeper, if the claim is about one.

@@ -1,11 +1,12 @@
 //! A walk through all states, breadth first, so that the first run found is a shortest.
 
-use std::collections::HashSet;
+use std::collections::HashMap;
 
 use super::claims::{Claim, Seen};
 use super::machine::{Event, Machine, State};
 use super::menu::Menu;
 use super::normal::normal;
+use crate::party::Side;
 
 /// What is explored: the menu, the claims that are watched, and how many raises of a bell
 /// since its epoch are told apart. 1 is enough where a bell does not come round: it then
@@ -24,37 +25,57 @@ pub struct Run {
     pub claim: Claim,
 }
 
-/// The states that a walk came to, and the first run that broke a claim.
-pub struct Explored {
-    pub states: Vec<State>,
-    pub broken: Option<Run>,
+/// What led from one state to another, by their places in the walk.
+#[derive(Clone, Copy)]
+pub struct Edge {
+    pub from: usize,
+    pub event: Event,
+    pub to: usize,
+    /// Whether it is a turn that counts: one that answers neither 20 nor 253.
+    pub counts: bool,
+    /// Whose note it publishes: sends or delivers.
+    pub publishes: Option<Side>,
 }
 
-/// A walk under way: the states in the order they were come to, and for each but the first
-/// the state before it and the event that led on.
-struct Walker {
-    known: HashSet<State>,
-    states: Vec<State>,
+/// The states that a walk came to, in that order, all that led from one to another, and the
+/// first run that broke a claim.
+pub struct Explored {
+    pub states: Vec<State>,
+    pub edges: Vec<Edge>,
+    pub broken: Option<Run>,
+    places: HashMap<State, usize>,
+    /// For each state but the first the one before it and the event that led on.
     origins: Vec<Option<(usize, Event)>>,
 }
 
-impl Walker {
+impl Explored {
     fn new(start: State) -> Self {
-        Walker {
-            known: HashSet::from([start]),
+        Explored {
             states: vec![start],
+            edges: Vec::new(),
+            broken: None,
+            places: HashMap::from([(start, 0)]),
             origins: vec![None],
         }
     }
 
-    fn comes_to(&mut self, state: State, from: usize, event: Event) {
-        if self.known.insert(state) {
+    fn comes_to(&mut self, state: State, from: usize, event: Event) -> usize {
+        let next = self.states.len();
+        let place = *self.places.entry(state).or_insert(next);
+        if place == next {
             self.states.push(state);
             self.origins.push(Some((from, event)));
         }
+        place
     }
 
-    fn events_to(&self, mut at: usize) -> Vec<Event> {
+    /// The place of a state, if the walk came to it.
+    pub fn place(&self, state: &State) -> Option<usize> {
+        self.places.get(state).copied()
+    }
+
+    /// A shortest run to the state at a place.
+    pub fn events_to(&self, mut at: usize) -> Vec<Event> {
         let mut events = Vec::new();
         while let Some((from, event)) = self.origins[at] {
             events.push(event);
@@ -80,13 +101,30 @@ impl Walker {
                 events.push(event);
                 return Some(Run { events, claim });
             }
-            self.comes_to(normal(&after, machine.bell(), walk.raises), at, event);
+            let to = self.comes_to(normal(&after, machine.bell(), walk.raises), at, event);
+            self.edges.push(Edge {
+                from: at,
+                event,
+                to,
+                counts: event.counts(answer),
+                publishes: seen.publishes(),
+            });
         }
         None
     }
 }
 
 impl Walk<'_> {
+    /// Walks through all that a menu leads to, with no claim watched.
+    pub fn all(machine: &mut Machine, menu: Menu) -> Explored {
+        let walk = Walk {
+            menu,
+            claims: &[],
+            raises: 1,
+        };
+        walk.from_start(machine)
+    }
+
     pub fn from_start(&self, machine: &mut Machine) -> Explored {
         let start = machine.start();
         self.explore(machine, &start)
@@ -94,16 +132,12 @@ impl Walk<'_> {
 
     /// Walks through all that may follow a state, up to the first broken claim.
     pub fn explore(&self, machine: &mut Machine, start: &State) -> Explored {
-        let mut walker = Walker::new(normal(start, machine.bell(), self.raises));
-        let mut broken = None;
+        let mut explored = Explored::new(normal(start, machine.bell(), self.raises));
         let mut at = 0;
-        while at < walker.states.len() && broken.is_none() {
-            broken = walker.goes_on(at, self, machine);
+        while at < explored.states.len() && explored.broken.is_none() {
+            explored.broken = explored.goes_on(at, self, machine);
             at += 1;
         }
-        Explored {
-            states: walker.states,
-            broken,
-        }
+        explored
     }
 }

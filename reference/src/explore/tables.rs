@@ -4,6 +4,7 @@ use super::bounds::{
     most_from_look, most_to_no_room, most_to_rest, most_to_sleep, states, to_no_room, to_rest,
     to_sleep, Largest,
 };
+use super::longest::NO_BOUND;
 use super::machine::{Machine, State, Turns};
 use super::menu::Menu;
 use super::normal::raises;
@@ -20,20 +21,40 @@ fn turns_words(largest: &Largest) -> String {
     }
 }
 
+/// A number of turns or rounds.
+pub fn number(most: u32) -> String {
+    match most {
+        NO_BOUND => "no bound".into(),
+        most => most.to_string(),
+    }
+}
+
+/// The name of a step; of a spin also how many follow it.
+pub fn step_words(side: Side, step: Step) -> String {
+    match step {
+        Step::Spin { left } => format!("S, {left} to follow"),
+        step => step_name(side, step),
+    }
+}
+
+fn step_name(side: Side, step: Step) -> String {
+    words::step(&Party {
+        step,
+        ..Party::unattached(side)
+    })
+}
+
 /// The steps of a stretch, by their names.
 fn steps_words(side: Side, steps: &[Step]) -> String {
-    let name = |&step: &Step| {
-        words::step(&Party {
-            step,
-            ..Party::unattached(side)
-        })
-    };
-    let names: Vec<String> = steps.iter().map(name).collect();
+    let names: Vec<String> = steps.iter().map(|&step| step_name(side, step)).collect();
     names.join(" ")
 }
 
+/// The head of the lines that `row` writes.
+pub const HEAD: &str = "  party     theorem    bound  reached  by";
+
 /// One line: the bound and the most found, marked where it is more. Gives whether it is kept.
-fn row(report: &mut Report, name: &str, side: Side, largest: &Largest, bound: u32) -> bool {
+pub fn row(report: &mut Report, name: &str, side: Side, largest: &Largest, bound: u32) -> bool {
     let kept = largest.turns.is_some_and(|turns| turns <= bound);
     let mark = if kept { ' ' } else { '!' };
     report.line(&format!(
@@ -67,7 +88,7 @@ fn rows(report: &mut Report, machine: &mut Machine, side: Side, menu: Menu) -> b
 /// The most own turns in every state that a menu leads to, in stretches by the same menu.
 /// Gives whether the bounds are kept.
 pub fn own_turns(report: &mut Report, machine: &mut Machine, menu_of: fn(Side) -> Menu) -> bool {
-    report.line("  party     theorem    bound  reached  by");
+    report.line(HEAD);
     let [sender, recorder] =
         [Side::Sender, Side::Recorder].map(|side| rows(report, machine, side, menu_of(side)));
     sender && recorder
