@@ -17,6 +17,7 @@ const PROVED: &str = "printf 'one proved\\nrt: ok; handles allowed: none\\n7 pas
 struct Tools {
     stated: &'static str,
     places: &'static str,
+    asking: &'static str,
     pictures: &'static str,
     prove: &'static str,
     tests: &'static str,
@@ -28,6 +29,7 @@ struct Tools {
 const GOOD: Tools = Tools {
     stated: "exit 0",
     places: "exit 0",
+    asking: "exit 0",
     pictures: "exit 0",
     prove: PROVED,
     tests: "exit 0",
@@ -44,6 +46,7 @@ fn folder(name: &str, tools: &Tools) -> PathBuf {
     fs::write(folder.join(".ci/run"), fs::read(GATE).unwrap()).unwrap();
     executable(&folder.join(".ci/stated"), tools.stated);
     executable(&folder.join(".ci/places"), tools.places);
+    executable(&folder.join(".ci/asking"), tools.asking);
     executable(&folder.join("tools/pictures"), tools.pictures);
     let rt = format!(
         "case \"$*\" in\nci) {} ;;\n*) exit 99 ;;\nesac",
@@ -219,6 +222,13 @@ fn whatever_fails_fails_the_gate() {
             },
         ),
         (
+            "asking",
+            Tools {
+                asking: bad,
+                ..GOOD
+            },
+        ),
+        (
             "pictures",
             Tools {
                 pictures: bad,
@@ -296,4 +306,38 @@ fn an_edit_names_a_place_that_occurs_once() {
     }
     let elsewhere = "file: src/other.txt\nold: a = 1\nnew: a = 2\n";
     assert_eq!(places("elsewhere", elsewhere).0, Some(1));
+}
+
+/// What `.ci/asking` says of a page, over code with one public function that asks something. The code stands
+/// outside the repository, where rt would refuse it.
+fn asking(name: &str, listed: &str) -> (Option<i32>, String) {
+    let folder = std::env::temp_dir().join(format!("asking-{name}-{}", std::process::id()));
+    for part in [".ci", "crates/one/src", "docs"] {
+        fs::create_dir_all(folder.join(part)).unwrap();
+    }
+    let script = concat!(env!("CARGO_MANIFEST_DIR"), "/../.ci/asking");
+    fs::write(folder.join(".ci/asking"), fs::read(script).unwrap()).unwrap();
+    let code = "pub fn asks(n: u8)\n    requires { n }\n{}\n\nfn within(n: u8)\n    requires { n }\n{}\n\npub fn takes(n: u8) {}\n";
+    fs::write(folder.join("crates/one/src/lib.rt"), code).unwrap();
+    let page = format!(
+        "<!-- asking: held -->\n| a fact | {listed} | why `one::takes` |\n<!-- end of asking -->\n"
+    );
+    fs::write(folder.join("docs/PROMISES.md"), page).unwrap();
+    let output = output(Command::new("bash").arg(folder.join(".ci/asking")));
+    fs::remove_dir_all(&folder).unwrap();
+    (
+        output.status.code(),
+        String::from_utf8(output.stderr).unwrap(),
+    )
+}
+
+#[test]
+fn functions_that_ask_are_those_that_the_page_lists() {
+    assert_eq!(asking("listed", "`one::asks`"), (Some(0), String::new()));
+    let (status, said) = asking("unlisted", "none");
+    assert_eq!(status, Some(1));
+    assert!(said.contains("< one::asks"), "{said}");
+    let (status, said) = asking("stale", "`one::asks`, `one::takes`");
+    assert_eq!(status, Some(1));
+    assert!(said.contains("> one::takes"), "{said}");
 }
