@@ -33,11 +33,14 @@ use Rattle.rules.proofs.Leads.{last_at}
 use Rattle.rules.proofs.Does.{Does, does, nothing, flags, reads, writes, takes, stores, raises, closes, shuts, waits, wakes, looks as watches}
 use Rattle.rules.proofs.RealRun.{power-fits, slot-fits, real-reached}
 use Rattle.rules.proofs.Heard.{Cause, room_by}
-use Rattle.rules.proofs.NearerAmid.{seen, to_rest, room-le, near}
+use Rattle.rules.proofs.Nearer.{room-le}
+use Rattle.rules.proofs.NearerAmid.{seen, to_rest, near}
 use Rattle.rules.proofs.Bound.{Count, by-moves}
 use Rattle.rules.proofs.Asks.{run-parts, typed-parts}
 use Rattle.rules.proofs.Deeds.{Deed, deed, goes, stays}
-use Rattle.rules.proofs.Stopping.{one_more, looks-most, last-is, Barred, Stretch, ending-run}
+use Rattle.rules.proofs.Ending.{one_more, looks-most}
+use Rattle.rules.proofs.Stops.{last-is}
+use Rattle.rules.proofs.Stopping.{Barred, Stretch, ending-run}
 use Rattle.rules.proofs.Real.{parts, room_in, Real}
 
 stop-cause : (k : ℕ) (z : Bool) → z ≡ true → Cause k z

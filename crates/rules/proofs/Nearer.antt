@@ -11,7 +11,7 @@ use Rattle.rules.proofs.Does.{less, under, less_one}
 use Rattle.rules.proofs.Costs.{own_room}
 
 -- a look that finds room copies and goes on to a store; one that finds none comes to the flags, and to a last look at most
-abbrev by_room : ℕ → (none some : ℕ) → ℕ
+abbrev pub by_room : ℕ → (none some : ℕ) → ℕ
 by_room zero none some = none
 by_room (suc k) none some = some
 
@@ -45,7 +45,7 @@ pub room-le : (k none some most : ℕ) → none ≤ most → some ≤ most → b
 room-le zero none some most h g = h
 room-le (suc k) none some most h g = g
 
-room-not : (k none some : ℕ) → 0 < none → 0 < some → by_room k none some ≤ 0 → ⊥
+pub room-not : (k none some : ℕ) → 0 < none → 0 < some → by_room k none some ≤ 0 → ⊥
 room-not zero none some h g l = omega arith
 room-not (suc k) none some h g l = omega arith
 
@@ -80,7 +80,7 @@ near l q (ShutRaiseNf c f) k = record { most = λ n h f. omega arith; rested = �
 near l q (ShutWakeNf c f) k = record { most = λ n h f. omega arith; rested = λ h. absurd (omega arith) }
 
 -- a turn with room and one without each take one off
-room-down : (k a b c d : ℕ) → (k ≡ 0 → a ≤ less c) → (0 < k → b ≤ less d) → by_room k a b ≤ less (by_room k c d)
+pub room-down : (k a b c d : ℕ) → (k ≡ 0 → a ≤ less c) → (0 < k → b ≤ less d) → by_room k a b ≤ less (by_room k c d)
 room-down zero a b c d h g = h refl
 room-down (suc k) a b c d h g = g (omega arith)
 

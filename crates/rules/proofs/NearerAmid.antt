@@ -1,19 +1,14 @@
--- The turns that are left to a call's end where a flag is up, by the last looks and by the spins that a shutdown spares: of T4 where the other moves.
+-- The turns that are left to a call's end where a flag is up, and the other may still give room.
 use mathlib.Core.Path.{◌≡◌, refl, sym, ap, ◌∙◌}
-use mathlib.Core.Bool.{Bool, true, false}
+use mathlib.Core.Bool.{true}
 use Prim.Native.Nat.{ℕ, zero, suc, ◌+◌, ◌*◌, ◌<◌, ◌≤◌}
 use native.Mathlib.Omega.{arith}
 use Rattle.types.specs.declared.Step.{Step}
 use Rattle.types.specs.declared.Step.TheVariants.{Rest, Look, Copy, Publish, Check, Raise, Wake, Gate, Spin, Epoch, Again, GateAgain, Wait, Asleep, LastLook, CloseSet, CloseRaise, CloseWake, ShutSet, ShutRaiseNe, ShutWakeNe, ShutRaiseNf, ShutWakeNf}
-use Rattle.rules.specs.Phase.{Phase, resting, looking, copying, publishing, telling, asking, armed, poised, waits, sleeps, glancing, leaving, phase}
-use Rattle.rules.proofs.Leads.{Sight, Onward, straight, around, asks, last_at, barred, Leads, idles, finds, blocks, gives_up, copies, spills, tells, stores, owes, passes, raises, wakes, enters, stops, finds-spin, spins, reads, finds-again, stays, enters-again, stops-again, returns, ends, dreams, glances, glances-again, times-out, finds-last, finds-none, closes, closes-alone, close-raises, close-wakes, shuts, shut-raises, shut-wakes, shut-raises-again, shut-wakes-again, sleeps as falls-asleep}
+use Rattle.rules.proofs.Leads.{Sight, Onward, straight, around, last_at, barred, Leads, idles, finds, blocks, gives_up, copies, spills, tells, stores, owes, passes, raises, wakes, enters, stops, finds-spin, spins, reads, finds-again, stays, enters-again, stops-again, returns, ends, dreams, glances, glances-again, times-out, finds-last, finds-none, closes, closes-alone, close-raises, close-wakes, shuts, shut-raises, shut-wakes, shut-raises-again, shut-wakes-again, sleeps as falls-asleep}
 use Rattle.rules.proofs.Does.{less, under, less_one}
 use Rattle.rules.proofs.Costs.{own_room}
-
--- a look that finds room copies and goes on to a store; one that finds none comes to the flags, and to a last look at most
-abbrev by_room : ℕ → (none some : ℕ) → ℕ
-by_room zero none some = none
-by_room (suc k) none some = some
+use Rattle.rules.proofs.Nearer.{by_room, room-le, room-not, room-down}
 
 -- the room that a look may find: where more comes while the call runs, c is one, and it is some
 abbrev pub seen : (c k : ℕ) → ℕ
@@ -52,14 +47,6 @@ to_rest l c (ShutWakeNe t) k = 3
 to_rest l c (ShutRaiseNf t f) k = 2
 to_rest l c (ShutWakeNf t f) k = 1
 
-pub room-le : (k none some most : ℕ) → none ≤ most → some ≤ most → by_room k none some ≤ most
-room-le zero none some most h g = h
-room-le (suc k) none some most h g = g
-
-room-not : (k none some : ℕ) → 0 < none → 0 < some → by_room k none some ≤ 0 → ⊥
-room-not zero none some h g l = omega arith
-room-not (suc k) none some h g l = omega arith
-
 -- at most seven are left, or those after the spins that follow; and none at rest alone
 pub record Near (l c : ℕ) (s : Step) (k : ℕ) : Type 0 where
   pub most : (n : ℕ) → 7 ≤ n → ((m : ℕ) → s ≡ Spin m → (m + 4 + l ≤ n) × (6 + late c m ≤ n)) → to_rest l c s k ≤ n
@@ -89,11 +76,6 @@ near l c q (ShutRaiseNe t) k = record { most = λ n h f. omega arith; rested = �
 near l c q (ShutWakeNe t) k = record { most = λ n h f. omega arith; rested = λ h. absurd (omega arith) }
 near l c q (ShutRaiseNf t u) k = record { most = λ n h f. omega arith; rested = λ h. absurd (omega arith) }
 near l c q (ShutWakeNf t u) k = record { most = λ n h f. omega arith; rested = λ h. absurd (omega arith) }
-
--- a turn with room and one without each take one off
-room-down : (k a b c d : ℕ) → (k ≡ 0 → a ≤ less c) → (0 < k → b ≤ less d) → by_room k a b ≤ less (by_room k c d)
-room-down zero a b c d h g = h refl
-room-down (suc k) a b c d h g = g (omega arith)
 
 -- room that is there is found; and where there was none, it came
 room-found : (c k none more : ℕ) → 0 < k → 5 ≤ less (by_room (seen c k) none (6 + more))
@@ -163,63 +145,3 @@ nearer g l c q a s next shut-raises y d = omega arith
 nearer g l c q a s next shut-wakes y d = omega arith
 nearer g l c q a s next shut-raises-again y d = omega arith
 nearer g l c q a s next shut-wakes-again y d = omega arith
-
--- between a spin and its end, with a flag up and no room, it takes exactly one off
-abbrev stopping_at : Phase → Bool
-stopping_at resting = true
-stopping_at looking = false
-stopping_at copying = false
-stopping_at (publishing l t) = false
-stopping_at (telling l t) = false
-stopping_at asking = true
-stopping_at (armed e) = true
-stopping_at (poised e) = true
-stopping_at (waits e) = false
-stopping_at sleeps = false
-stopping_at glancing = true
-stopping_at leaving = false
-
-abbrev pub stopping : Step → Bool
-stopping s = stopping_at (phase s)
-
-pub nears : (g : Sight) → g.room ≡ 0 → barred g.door ≡ true → (s next : Step) → Leads g s next → stopping s ≡ true
-    → (stopping next ≡ true) × (to_rest (last_at g.side g.door) 0 next 0 ≡ less (to_rest (last_at g.side g.door) 0 s 0))
-nears g e y s next idles d = (refl, refl)
-nears g e y s next (finds h) d = absurd (let u : ◌≡◌ {A = ℕ} 0 1 = cc in omega arith)
-nears g e y s next (blocks h c) d = absurd (let u : ◌≡◌ {A = ℕ} 0 1 = cc in omega arith)
-nears g e y s next (gives_up h c) d = absurd (let u : ◌≡◌ {A = ℕ} 0 1 = cc in omega arith)
-nears g e y s next copies d = absurd (let u : ◌≡◌ {A = ℕ} 0 1 = cc in omega arith)
-nears g e y s next spills d = absurd (let u : ◌≡◌ {A = ℕ} 0 1 = cc in omega arith)
-nears g e y s next (tells h) d = absurd (let u : ◌≡◌ {A = ℕ} 0 1 = cc in omega arith)
-nears g e y s next (stores h) d = absurd (let u : ◌≡◌ {A = ℕ} 0 1 = cc in omega arith)
-nears g e y s next (owes h) d = absurd (let u : ◌≡◌ {A = ℕ} 0 1 = cc in omega arith)
-nears g e y s next (passes h) d = absurd (let u : ◌≡◌ {A = ℕ} 0 1 = cc in omega arith)
-nears g e y s next raises d = absurd (let u : ◌≡◌ {A = ℕ} 0 1 = cc in omega arith)
-nears g e y s next wakes d = absurd (let u : ◌≡◌ {A = ℕ} 0 1 = cc in omega arith)
-nears g e y s next (enters h o) d = absurd (let q = sym y ∙ ap barred h in let u : ◌≡◌ {A = ℕ} 0 1 = cc in omega arith)
-nears g e y s next (finds-spin h) d = absurd (omega arith)
-nears g e y s next (spins h o) d = (rw (asks _ _ o) refl, spun (last_at g.side g.door) _ 0 next refl o)
-nears g e y s next (stops h u) d = (refl, rw u refl)
-nears g e y s next reads d = (refl, less_one (2 + last_at g.side g.door) (3 + last_at g.side g.door) (omega arith))
-nears g e y s next (finds-again h) d = absurd (omega arith)
-nears g e y s next (stays h) d = (refl, less_one (1 + last_at g.side g.door) (2 + last_at g.side g.door) (omega arith))
-nears g e y s next (enters-again h) d = absurd (let q = sym y ∙ ap barred h in let u : ◌≡◌ {A = ℕ} 0 1 = cc in omega arith)
-nears g e y s next (stops-again h u) d = (refl, rw u refl)
-nears g e y s next (falls-asleep h) d = absurd (let u : ◌≡◌ {A = ℕ} 0 1 = cc in omega arith)
-nears g e y s next returns d = absurd (let u : ◌≡◌ {A = ℕ} 0 1 = cc in omega arith)
-nears g e y s next ends d = absurd (let u : ◌≡◌ {A = ℕ} 0 1 = cc in omega arith)
-nears g e y s next dreams d = absurd (let u : ◌≡◌ {A = ℕ} 0 1 = cc in omega arith)
-nears g e y s next (glances h u) d = (refl, rw u refl)
-nears g e y s next (glances-again h u) d = (refl, rw u refl)
-nears g e y s next times-out d = absurd (let u : ◌≡◌ {A = ℕ} 0 1 = cc in omega arith)
-nears g e y s next (finds-last h) d = absurd (omega arith)
-nears g e y s next (finds-none h) d = (refl, refl)
-nears g e y s next (closes h) d = absurd (let u : ◌≡◌ {A = ℕ} 0 1 = cc in omega arith)
-nears g e y s next (closes-alone h) d = absurd (let u : ◌≡◌ {A = ℕ} 0 1 = cc in omega arith)
-nears g e y s next close-raises d = absurd (let u : ◌≡◌ {A = ℕ} 0 1 = cc in omega arith)
-nears g e y s next close-wakes d = absurd (let u : ◌≡◌ {A = ℕ} 0 1 = cc in omega arith)
-nears g e y s next shuts d = absurd (let u : ◌≡◌ {A = ℕ} 0 1 = cc in omega arith)
-nears g e y s next shut-raises d = absurd (let u : ◌≡◌ {A = ℕ} 0 1 = cc in omega arith)
-nears g e y s next shut-wakes d = absurd (let u : ◌≡◌ {A = ℕ} 0 1 = cc in omega arith)
-nears g e y s next shut-raises-again d = absurd (let u : ◌≡◌ {A = ℕ} 0 1 = cc in omega arith)
-nears g e y s next shut-wakes-again d = absurd (let u : ◌≡◌ {A = ℕ} 0 1 = cc in omega arith)

@@ -11,7 +11,6 @@ use Rattle.types.specs.declared.Side.{Side}
 use Rattle.types.specs.declared.Side.TheVariants.{Sender, Recorder}
 use Rattle.types.specs.declared.Mark.{Mark}
 use Rattle.types.specs.declared.Mark.TheVariants.{Shutdown as ShutMark}
-use Rattle.types.specs.declared.Door.{Door}
 use Rattle.types.specs.declared.Door.TheVariants.{Shut, Left, Open}
 use Rattle.types.specs.declared.Step.{Step}
 use Rattle.types.specs.declared.Step.TheVariants.{Rest, Look, Asleep}
@@ -26,7 +25,6 @@ use Rattle.rules.specs.Take.{stance_of}
 use Rattle.rules.specs.Run.{World, Happening, party_in, happens, run}
 use Rattle.rules.specs.Premises.{Typed, AllTyped}
 use Rattle.rules.specs.Stretch.{tick_by}
-use Rattle.rules.specs.Claims.{last_looks}
 use Rattle.rules.specs.Both.{done_by, turns_by}
 use Rattle.rules.proofs.Views.{Kind, rests, dreams, acts, kind}
 use Rattle.rules.proofs.Leads.{stop_at, barred, stop-barred, last_at}
@@ -35,39 +33,17 @@ use Rattle.rules.proofs.RealRun.{real-happens}
 use Rattle.rules.proofs.Heard.{room_by}
 use Rattle.rules.proofs.Does.{less}
 use Rattle.rules.proofs.Costs.{own_room}
-use Rattle.rules.proofs.NearerAmid.{seen, to_rest, room-le, near, nearer}
+use Rattle.rules.proofs.Nearer.{room-le}
+use Rattle.rules.proofs.NearerAmid.{seen, to_rest, near, nearer}
 use Rattle.rules.proofs.Bound.{Count, moves-off}
 use Rattle.rules.proofs.Strides.{sleep-stays}
 use Rattle.rules.proofs.Deeds.{Goes, Stays, Deed, deed, goes, stays}
 use Rattle.rules.proofs.Real.{room_in, Real}
 
--- a side's last looks: at most one, and as many as there may be by its door
-pub one_more : (side : Side) → last_looks side ≤ 1
-one_more Sender = omega arith
-one_more Recorder = omega arith
-
-pub looks-most : (side : Side) (d : Door) → last_at side d ≤ last_looks side
-looks-most Sender d = omega arith
-looks-most Recorder Shut = omega arith
-looks-most Recorder Left = omega arith
-looks-most Recorder Open = omega arith
-
-pub shut-spares : (side : Side) → last_at side Shut ≡ 0
+-- a shutdown spares a side's last look
+shut-spares : (side : Side) → last_at side Shut ≡ 0
 shut-spares Sender = refl
 shut-spares Recorder = refl
-
--- a shutdown spares the last look
-pub last-is : (side : Side) (flags : ℕ) → (bit_on (worth ShutMark) flags || bit_on (worth (close_mark (other side))) flags) ≡ true
-    → last_at side (door_of side flags) ≡ pick (bit_on (worth ShutMark) flags) 0 (last_looks side)
-unfolding door_of
-last-is side flags e = by side (bit_on (worth ShutMark) flags) (bit_on (worth (close_mark (other side))) flags) e
-  where
-    by : (side : Side) (a c : Bool) → (a || c) ≡ true → last_at side (pick a Shut (pick c Left Open)) ≡ pick a 0 (last_looks side)
-    by Sender true c e = refl
-    by Recorder true c e = refl
-    by Sender false true e = refl
-    by Recorder false true e = refl
-    by side false false e = absurd (let z : ◌≡◌ {A = ℕ} 0 1 = cc in omega arith)
 
 -- the flags stop a side, and leave it so many last looks
 pub record Barred (side : Side) (l flags : ℕ) : Type 0 where

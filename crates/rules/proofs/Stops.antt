@@ -41,7 +41,7 @@ use Rattle.rules.proofs.Exactly.{exactly}
 use Rattle.rules.proofs.Real.{room_in, Real}
 
 -- a shutdown spares the last look
-last-is : (side : Side) (flags : ℕ) → (bit_on (worth ShutMark) flags || bit_on (worth (close_mark (other side))) flags) ≡ true
+pub last-is : (side : Side) (flags : ℕ) → (bit_on (worth ShutMark) flags || bit_on (worth (close_mark (other side))) flags) ≡ true
     → last_at side (door_of side flags) ≡ pick (bit_on (worth ShutMark) flags) 0 (last_looks side)
 unfolding door_of
 last-is side flags e = by side (bit_on (worth ShutMark) flags) (bit_on (worth (close_mark (other side))) flags) e
