@@ -142,6 +142,7 @@ fn nights(power: u8, not_full: bool, spins: u16, to_send: u64) -> Vec<Vec<u32>> 
     (0..=to_send).map(row).collect()
 }
 
+/// As the walk finds them. What is proved is `claimed_rounds`, and no number is above that.
 #[test]
 fn the_numbers_of_t13() {
     for spins in [0, 2] {
@@ -248,7 +249,8 @@ fn lengths(machine: &mut Machine, menu: Menu) -> [Option<usize>; 3] {
 }
 
 /// Without the premise on wakes, and without the one on bells, T12 and T13 are broken, and somebody
-/// oversleeps; with both nothing is.
+/// oversleeps; with both nothing is. The lengths are those of the shortest stories, as the walk
+/// finds them.
 #[test]
 fn wakes_and_bells_are_needed() {
     let failing = Menu {

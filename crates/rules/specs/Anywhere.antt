@@ -81,7 +81,7 @@ CorruptionTold side = (w : World) → sound side (party_in w side) ≡ true → 
     → (answers_of side ls w ≡ GoesOn ∷ GoesOn ∷ GoesOn ∷ GoesOn ∷ GoesOn ∷ CorruptIndices ∷ [])
     × (((after_turns side ls w).region ≡ shut_down w.region) × ((party_in (after_turns side ls w) side).step ≡ Rest))
 
--- and 7 has no other cause: whoever stands in corruption's shutdown stood there before, or has just looked and found so many used
+-- and no other turn leads there: whoever stands in corruption's shutdown stood there before, or has just looked and found so many used
 pub data Corrupting : Step → Type 0 where
   sets : Corrupting (ShutSet true)
   raises-ne : Corrupting (ShutRaiseNe true)

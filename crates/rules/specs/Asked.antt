@@ -1,4 +1,4 @@
--- What a side's call was asked for, by the entries of the run: kept for the statements of `Meaning` alone.
+-- What a side's call was asked for, by the entries of the run: kept for the statements of `Meaning`. `Grounds` takes `lent_of` alone.
 use Rattle.std.specs.Prelude.{◌≡◌, Bool, true, false, ◌&&◌, ◌||◌, List, [], ◌∷◌, ◌++◌, ℕ, eqb}
 use Rattle.types.specs.Pick.{pick}
 use Rattle.types.specs.Answers.{number}

@@ -1,4 +1,5 @@
 -- What is claimed where both sides move: every call ends, wait-free, never still, and a whole night.
+-- A world here is one that a run leads to: `reached`, of `Claims`.
 use Rattle.std.specs.Prelude.{◌≡◌, Bool, true, false, ◌||◌, List, [], ◌∷◌, ◌++◌, ◌⊎◌, ℕ, ◌+◌, ◌*◌, ◌<◌, ◌≤◌, leb, length}
 use Rattle.types.specs.Pick.{pick}
 use Rattle.types.specs.declared.Side.{Side}

@@ -155,7 +155,7 @@ module _ (region : List ℕ) (power slot : ℕ) (notfull : Bool) (start : ℕ) w
   abbrev pub BoundedTicks : Side → Type 0
   BoundedTicks side = (hs ms : List Happening) → Willed side hs ms → 4 * room side (capacity power) (reached hs) + 3 ≤ ticks ms (reached hs) → Emptied side hs ms
 
-  -- stronger than `BoundedTicks`: the other stands anywhere in a call, and does not move (it may have died there); and `slack`, by its room, for the 3
+  -- stronger than `BoundedTicks`: the other stands anywhere, and does not move (it may have died there); and `slack`, by its room, for the 3
   abbrev pub Dead : Side → (hs ms : List Happening) → Type 0
   Dead side hs ms = AllTyped (hs ++ ms) × ((in_call (party_in (reached hs) side).step ≡ true) × Willing side ms (reached hs))
 
@@ -172,7 +172,7 @@ module _ (region : List ℕ) (power slot : ℕ) (notfull : Bool) (start : ℕ) w
   abbrev pub Bounded : Side → Type 0
   Bounded side = (hs ms : List Happening) → Alone side hs ms → Emptied side hs ms
 
-  -- stronger than `Alone` and `Bounded`: `slack`, by the room of the other, for the 3
+  -- stronger than `Bounded`, since fewer turns are asked: `slack`, by the room of the other, for the 3
   abbrev pub AloneBySlack : Side → (hs ms : List Happening) → Type 0
   AloneBySlack side hs ms = Going side hs ms × (4 * room side (capacity power) (reached hs) + slack (room (other side) (capacity power) (reached hs)) ≤ beats ms (reached hs))
 
@@ -276,8 +276,8 @@ module _ (region : List ℕ) (power slot : ℕ) (notfull : Bool) (start : ℕ) w
   abbrev pub Sound : Side → Type 0
   Sound side = (hs : List Happening) → AllTyped hs → (party_in (reached hs) side).own.attached ≡ true → sound side (party_in (reached hs) side) ≡ true
 
-  -- and has the ring's sizes and option and its own counter, as they stand in the region; it is attached and closed as its bits say: one's own
-  -- close counts from the turn that sets its bit
+  -- and has the sizes and the option that the region was created with, and its own counter as it stands there; it is attached and closed as its
+  -- bits say: one's own close counts from the turn that sets its bit
   abbrev pub OwnCopy : Side → Type 0
   OwnCopy side = (hs : List Happening) → AllTyped hs
       → ((party_in (reached hs) side).own.attached ≡ bit_on (worth (attach_mark side)) (le_at 4 (reached hs).region flags_at))

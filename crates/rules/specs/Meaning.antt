@@ -1,4 +1,5 @@
--- What a call does of what it was asked, and what its answers mean: T14 to T16, of every run.
+-- What a call does of what it was asked, and what its answers mean: T14 to T16, of every run; and T17's `WaitsAsRead`.
+-- A world here is one that a run leads to: `reached`, of `Claims`.
 use Rattle.std.specs.Prelude.{◌≡◌, Bool, true, false, ◌&&◌, ◌||◌, List, [], ◌∷◌, ◌++◌, ◌⊎◌, ℕ, ◌+◌, ◌%◌, ◌^◌, ◌<◌, ◌≤◌, eqb, length, take, drop}
 use Rattle.words.specs.Le.{le_at}
 use Rattle.words.specs.Wrap.{plus}
@@ -198,7 +199,7 @@ module _ (region : List ℕ) (power slot : ℕ) (notfull : Bool) (start : ℕ) w
       → (ls : List Lent) → length ls ≡ 3 → AllTaken side ls (happens h (world hs))
       → length (notes_of side (after_turns side ls (happens h (world hs))).trace) ≡ length (notes_of side (world hs).trace) + 1
 
-  -- T14: a wake or a spurious return leads a sleeper to its look
+  -- T14: a spurious return leads a sleeper to its look, and a turn of the other's leads it there or leaves it asleep
   abbrev pub RisesToLook : Side → Type 0
   RisesToLook side = (hs : List Happening) → AllTyped hs → (party_in (world hs) side).step ≡ Asleep → (payload lent : List ℕ) (fault : Fault)
       → ((party_in (happens (plays (Spurious side) payload lent) (world hs)) side).step ≡ Look)

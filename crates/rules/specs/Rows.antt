@@ -20,7 +20,7 @@ use Rattle.rules.specs.Next.{next_spec}
 use Rattle.rules.specs.Access.{value_of}
 use Rattle.rules.specs.Turn.{error_of, taken, turn_spec}
 
--- a look at the other side's counter: P1, C1, a spin, B3, W3, B6, W6
+-- a look at the other side's counter: P1, C1, a spin, B3, W3, B6, W6; the phase `looking` is the first two alone
 pub data Looking : Step → Type 0 where
   looks : Looking Look
   looks_on : {left : ℕ} → Looking (Spin left)

@@ -14,7 +14,7 @@ use Rattle.layout.specs.Header.{headed}
 use Rattle.layout.specs.Slots.{slot_at}
 use Rattle.layout.specs.Create.{create_answer, created}
 use Rattle.layout.specs.Attach.{attach_answer}
-use Rattle.layout.proofs.Headed.{Fitting}
+use Rattle.layout.specs.Whole.{Fitting}
 use Rattle.rules.specs.Looks.{room_of}
 
 pub data Case : Type 0 where

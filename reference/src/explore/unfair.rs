@@ -24,7 +24,7 @@ impl GivesWay for LooksAgain {
     }
 }
 
-/// The same where its bell was raised.
+/// The same where a bell was raised.
 struct BellAgain;
 
 impl GivesWay for BellAgain {
@@ -200,7 +200,7 @@ pub fn rules() -> [Unfair; 10] {
         ),
         rule(
             "bell",
-            "a first look that finds room looks again if its bell was raised",
+            "a first look that finds room looks again if a bell was raised",
             turns::<BellAgain>(),
             &[T11, T12, T4Amid],
         ),
