@@ -18,6 +18,7 @@ struct Tools {
     stated: &'static str,
     places: &'static str,
     asking: &'static str,
+    programs: &'static str,
     pictures: &'static str,
     prove: &'static str,
     tests: &'static str,
@@ -30,6 +31,7 @@ const GOOD: Tools = Tools {
     stated: "exit 0",
     places: "exit 0",
     asking: "exit 0",
+    programs: "exit 0",
     pictures: "exit 0",
     prove: PROVED,
     tests: "exit 0",
@@ -47,6 +49,7 @@ fn folder(name: &str, tools: &Tools) -> PathBuf {
     executable(&folder.join(".ci/stated"), tools.stated);
     executable(&folder.join(".ci/places"), tools.places);
     executable(&folder.join(".ci/asking"), tools.asking);
+    executable(&folder.join(".ci/programs"), tools.programs);
     executable(&folder.join("tools/pictures"), tools.pictures);
     let rt = format!(
         "case \"$*\" in\nci) {} ;;\n*) exit 99 ;;\nesac",
@@ -225,6 +228,13 @@ fn whatever_fails_fails_the_gate() {
             "asking",
             Tools {
                 asking: bad,
+                ..GOOD
+            },
+        ),
+        (
+            "programs",
+            Tools {
+                programs: bad,
                 ..GOOD
             },
         ),

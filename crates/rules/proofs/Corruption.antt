@@ -24,7 +24,7 @@ use Rattle.types.specs.declared.Access.TheVariants.{None, LoadCounter, LoadFlags
 use Rattle.types.specs.declared.Move.{Move}
 use Rattle.types.specs.declared.Move.TheVariants.{To, End}
 use Rattle.types.specs.declared.Step.{Step}
-use Rattle.types.specs.declared.Step.TheVariants.{Rest, CloseSet, CloseRaise, CloseWake, ShutSet, ShutRaiseNe, ShutWakeNe, ShutRaiseNf, ShutWakeNf}
+use Rattle.types.specs.declared.Step.TheVariants.{Rest, Wake, CloseSet, CloseRaise, CloseWake, ShutSet, ShutRaiseNe, ShutWakeNe, ShutRaiseNf, ShutWakeNf}
 use Rattle.types.specs.declared.Answer.TheVariants.{Done, CorruptIndices, Syscall, GoesOn}
 use Rattle.layout.specs.Limits.{capacity, total_bytes}
 use Rattle.layout.specs.Flags.{close_mark}
@@ -40,7 +40,7 @@ use Rattle.rules.specs.Turn.{error_of, lent_to, lent_ok, goes, taken, woke_of, a
 use Rattle.rules.specs.Bench.{turned}
 use Rattle.rules.specs.Run.{World, party_in, happens}
 use Rattle.rules.specs.Rows.{Looking, looks, looks_on, looks-again, looks-last}
-use Rattle.rules.specs.Anywhere.{told, Lent, turn_by, after_turns, answers_of, NoneZero, shut_down, CorruptionTold, first_failed, ShutdownTold, close_ends, CloseTold, FailedWakesNobody}
+use Rattle.rules.specs.Anywhere.{told, Lent, turn_by, after_turns, answers_of, NoneZero, shut_down, CorruptionTold, first_failed, ShutdownTold, close_ends, CloseTold, wake_ends, WakeTold, FailedWakesNobody}
 use Rattle.rules.proofs.Leaving.{made, turn_is, leaves-is, party-is}
 use Rattle.rules.proofs.Frames.{length-leaves}
 use Rattle.rules.proofs.Taken.{turn_world, seat-own}
@@ -252,6 +252,22 @@ close-told side w ok long s a b c z =
           let t1 = close-on side p ok R w a z.0 (End (Done 0 0)) at0 down in
           (rw t1.0, (t1.1.region ∙ rw mine, ap (λ (q : Party). q.step) t1.1.party)),
     )
+
+wake-end : (side τ : Side) → τ ≡ side → (own : Own) → own.side ≡ τ → (l t : ℕ) (f : Fault) → (f ≡ Error 0 → ⊥) → wake_move own (error_of f) l t ≡ End (wake_ends side l t f)
+unfolding wake_move
+wake-end side τ o own q l t f n = errors f n (λ x. wake_move own (error_of x) l t ≡ End (wake_ends side l t x)) refl (λ k e. rw (e, q, o) (by side k))
+  where
+    by : (side : Side) (k : ℕ) → End (Syscall (wake_op (ring_bell side)) k) ≡ End (wake_ends side l t (Error k))
+    by Sender k = refl
+    by Recorder k = refl
+
+pub wake-told : (side : Side) → WakeTold side
+unfolding leaves_of
+wake-told side w ok long l t s a z =
+    let p = party_in w side in
+    let at0 : At side p ok (Wake l t) w.region w = record { party = ap (λ (x : Step). at x p) s; region = refl; long = long } in
+    let t1 = turn_on side p ok (Wake l t) w.region w refl a z.0 (End (wake_ends side l t a.fault)) at0 (wake-end side p.own.side (side-is side p ok) p.own refl l t a.fault z.0) in
+    (rw t1.0, (t1.1.region, ap (λ (q : Party). q.step) t1.1.party))
 
 pub corruption-told : (side : Side) → CorruptionTold side
 corruption-told side w ok long k above ls n z = by ls n z

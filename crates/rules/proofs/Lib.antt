@@ -4,6 +4,7 @@ pub mod TurnRows
 pub mod Answered
 pub mod Leaving
 pub mod Refusals
+pub mod BenchLaws
 pub mod SlotAnswers
 pub mod Frames
 pub mod Real

@@ -1,5 +1,5 @@
--- What a pop's copy answers goes by the four words of its slot's header.
-use mathlib.Core.Path.{◌≡◌, ap, ◌∙◌}
+-- What a pop's copy answers, and copies, goes by the four words of its slot's header.
+use mathlib.Core.Path.{◌≡◌, refl, ap, ◌∙◌}
 use mathlib.Core.Bool.{true}
 use mathlib.Core.List.{List}
 use Prim.Native.Nat.{ℕ, ◌+◌, ◌<◌, ◌≤◌}
@@ -20,17 +20,17 @@ use Rattle.types.specs.declared.Step.TheVariants.{Copy}
 use Rattle.types.specs.declared.Access.{Access}
 use Rattle.types.specs.declared.Access.TheVariants.{ReadSlot}
 use Rattle.layout.specs.Limits.{payload_capacity}
-use Rattle.layout.specs.Slots.{head_of}
+use Rattle.layout.specs.Slots.{head_word, head_of, buffer_put}
 use Rattle.layout.proofs.SlotLaws.{head-fields}
 use Rattle.rules.specs.Looks.{fit_of}
 use Rattle.rules.specs.Steps.{fit_move}
 use Rattle.rules.specs.Take.{step_after, answer_of, move_of, take_spec}
 use Rattle.rules.specs.Next.{slot_access, next_spec}
-use Rattle.rules.specs.Access.{place_of, slot_of, value_of}
-use Rattle.rules.specs.Turn.{error_of, taken, act_spec}
-use Rattle.rules.specs.SlotAnswers.{word, Answers, AnswersBySlot}
+use Rattle.rules.specs.Access.{place_of, slot_of, value_of, buffer_of}
+use Rattle.rules.specs.Turn.{error_of, taken, act_spec, act_buffer}
+use Rattle.rules.specs.SlotAnswers.{word, Answers, AnswersBySlot, FillsBySlot}
 use Rattle.rules.proofs.FitLaws.{fit-bad, fit_small, fit_is, copy-by}
-use Rattle.rules.proofs.Leaving.{turn_is, next-is}
+use Rattle.rules.proofs.Leaving.{turn_is, buffer-is, next-is}
 
 part_bytes : (r : List ℕ) (i n : ℕ) → ((k : ℕ) → get_or r k 0 < 256) → (k : ℕ) → get_or (part r i n) k 0 < 256
 part_bytes r i n h k = by (dec_lt k n)
@@ -77,3 +77,13 @@ by-slot side r p i o f bytes g q s =
       small = λ k n. say Small (fit_small w most p.length k.0 k.1 k.2 n);
       fits = λ k n. say Fits (fit_is w most p.length k.0 k.1 k.2 n);
     }
+
+pub fills-by-slot : (side : Side) (r : List ℕ) (p : Party) (i o : List ℕ) (f : Fault) → FillsBySlot side r p i o f
+unfolding act_buffer buffer_of buffer_put
+fills-by-slot side r p i o f bytes g q s k n =
+    let w : SlotHead = header side r p i o f bytes g q s in
+    let slot : List ℕ = slot_of r p.own p.counter in
+    let at : next_spec p ≡ ReadSlot p.counter = next-is side r p i o f g Copy s ∙ ap (λ (x : Side). slot_access x p.counter) q in
+    let h : head_of (head_word slot) ≡ w = head-fields slot (part_bytes r (place_of p.own p.counter) p.own.slot bytes) in
+    let fit : fit_of w (payload_capacity p.own.slot) p.length ≡ Fits = fit_is w (payload_capacity p.own.slot) p.length k.0 k.1 k.2 n in
+    buffer-is side r p i o f g ∙ ap (λ (a : Access). buffer_of r p.own a p.length o) at ∙ rw (h, fit) refl

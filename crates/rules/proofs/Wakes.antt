@@ -13,6 +13,7 @@ use Rattle.types.specs.Pick.{pick}
 use Rattle.types.specs.declared.Side.{Side}
 use Rattle.types.specs.declared.Side.TheVariants.{Sender, Recorder}
 use Rattle.types.specs.declared.Bell.{Bell}
+use Rattle.types.specs.declared.Bell.TheVariants.{NotEmpty, NotFull}
 use Rattle.types.specs.declared.Own.{Own}
 use Rattle.types.specs.declared.Party.{Party}
 use Rattle.types.specs.declared.Fault.TheVariants.{Error}
@@ -22,7 +23,7 @@ use Rattle.types.specs.declared.Step.{Step}
 use Rattle.types.specs.declared.Step.TheVariants.{Rest, Look, Copy, Publish, Check, Raise, Wake, Gate, Spin, Epoch, Again, GateAgain, Wait, Asleep, LastLook, CloseSet, CloseRaise, CloseWake, ShutSet, ShutRaiseNe, ShutWakeNe, ShutRaiseNf, ShutWakeNf}
 use Rattle.types.specs.declared.Answer.TheVariants.{Syscall}
 use Rattle.layout.specs.Header.{bell_at}
-use Rattle.rules.specs.Sides.{sleep_bell, wait_op}
+use Rattle.rules.specs.Sides.{ring_bell, sleep_bell, wait_op}
 use Rattle.rules.specs.Looks.{nap_of}
 use Rattle.rules.specs.Steps.{wait_move}
 use Rattle.rules.specs.Take.{step_after, move_at, move_of}
@@ -35,7 +36,7 @@ use Rattle.rules.specs.Phase.{phase}
 use Rattle.rules.specs.Stretch.{in_call}
 use Rattle.rules.specs.Claims.{Fresh, reached}
 use Rattle.rules.specs.Asked.{Call}
-use Rattle.rules.specs.Anywhere.{wait_no, WakesSoMany, WaitFails}
+use Rattle.rules.specs.Anywhere.{wait_no, WakesSoMany, WakesOn, after_note, after_close, shut_ne, shut_nf, WakesThere, WaitFails}
 use Rattle.rules.specs.Meaning.{Published, WaitsAsRead, NeverTwo}
 use Rattle.rules.proofs.Answered.{given-only}
 use Rattle.rules.proofs.Taken.{is-sound, turn-taken as taken_is, seat-own}
@@ -45,7 +46,7 @@ use Rattle.rules.proofs.Meant.{Under, meant-reached}
 use Rattle.rules.proofs.Delivers.{turn-happens}
 use Rattle.rules.proofs.Real.{Seated, Since}
 
-wakes-at : (s : Step) (σ : Side) (k : ℕ) (b : Bell) (n : ℕ) → next_at s σ k ≡ WakeBell b n → n ≡ pick (in_call s) 1 2147483647
+wakes-at : (s : Step) (σ : Side) (k : ℕ) (b : Bell) (n : ℕ) → next_at s σ k ≡ WakeBell b n → (n ≡ pick (in_call s) 1 2147483647) × WakesOn σ s b
 wakes-at Rest σ k b n e = absurd (let z : ◌≡◌ {A = ℕ} 0 1 = cc in omega arith)
 wakes-at Look σ k b n e = absurd (let z : ◌≡◌ {A = ℕ} 0 1 = cc in omega arith)
 wakes-at Copy Sender k b n e = absurd (let z : ◌≡◌ {A = ℕ} 0 1 = cc in omega arith)
@@ -53,7 +54,7 @@ wakes-at Copy Recorder k b n e = absurd (let z : ◌≡◌ {A = ℕ} 0 1 = cc in
 wakes-at (Publish l t) σ k b n e = absurd (let z : ◌≡◌ {A = ℕ} 0 1 = cc in omega arith)
 wakes-at (Check l t) σ k b n e = absurd (let z : ◌≡◌ {A = ℕ} 0 1 = cc in omega arith)
 wakes-at (Raise l t) σ k b n e = absurd (let z : ◌≡◌ {A = ℕ} 0 1 = cc in omega arith)
-wakes-at (Wake l t) σ k b n e = cc
+wakes-at (Wake l t) σ k b n e = (cc, let z : ring_bell σ ≡ b = cc in subst (WakesOn σ (Wake l t)) z after_note)
 wakes-at Gate σ k b n e = absurd (let z : ◌≡◌ {A = ℕ} 0 1 = cc in omega arith)
 wakes-at (Spin i) σ k b n e = absurd (let z : ◌≡◌ {A = ℕ} 0 1 = cc in omega arith)
 wakes-at Epoch σ k b n e = absurd (let z : ◌≡◌ {A = ℕ} 0 1 = cc in omega arith)
@@ -64,16 +65,20 @@ wakes-at Asleep σ k b n e = absurd (let z : ◌≡◌ {A = ℕ} 0 1 = cc in ome
 wakes-at (LastLook c) σ k b n e = absurd (let z : ◌≡◌ {A = ℕ} 0 1 = cc in omega arith)
 wakes-at CloseSet σ k b n e = absurd (let z : ◌≡◌ {A = ℕ} 0 1 = cc in omega arith)
 wakes-at CloseRaise σ k b n e = absurd (let z : ◌≡◌ {A = ℕ} 0 1 = cc in omega arith)
-wakes-at CloseWake σ k b n e = cc
+wakes-at CloseWake σ k b n e = (cc, let z : ring_bell σ ≡ b = cc in subst (WakesOn σ (CloseWake)) z after_close)
 wakes-at (ShutSet c) σ k b n e = absurd (let z : ◌≡◌ {A = ℕ} 0 1 = cc in omega arith)
 wakes-at (ShutRaiseNe c) σ k b n e = absurd (let z : ◌≡◌ {A = ℕ} 0 1 = cc in omega arith)
-wakes-at (ShutWakeNe c) σ k b n e = cc
+wakes-at (ShutWakeNe c) σ k b n e = (cc, let z : NotEmpty ≡ b = cc in subst (WakesOn σ (ShutWakeNe c)) z shut_ne)
 wakes-at (ShutRaiseNf c i) σ k b n e = absurd (let z : ◌≡◌ {A = ℕ} 0 1 = cc in omega arith)
-wakes-at (ShutWakeNf c i) σ k b n e = cc
+wakes-at (ShutWakeNf c i) σ k b n e = (cc, let z : NotFull ≡ b = cc in subst (WakesOn σ (ShutWakeNf c i)) z shut_nf)
 
 pub wakes-so-many : WakesSoMany
 unfolding next_spec
-wakes-so-many p b n e = wakes-at p.step p.own.side p.counter b n e
+wakes-so-many p b n e = (wakes-at p.step p.own.side p.counter b n e).0
+
+pub wakes-there : WakesThere
+unfolding next_spec
+wakes-there p b n e = (wakes-at p.step p.own.side p.counter b n e).1
 
 waits-at : (s : Step) (σ : Side) (k : ℕ) (b : Bell) (n : ℕ) → next_at s σ k ≡ WaitBell b n → (s ≡ Wait n) × (b ≡ sleep_bell σ)
 waits-at Rest σ k b n e = absurd (let z : ◌≡◌ {A = ℕ} 0 1 = cc in omega arith)

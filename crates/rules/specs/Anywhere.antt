@@ -1,5 +1,5 @@
 -- T17: what holds of turns over any region and any record, whoever made them: corruption, shutdown, close, wakes, and waits that fail.
-use Rattle.std.specs.Prelude.{◌≡◌, true, false, List, [], ◌∷◌, ◌⊎◌, ℕ, ◌<◌, length}
+use Rattle.std.specs.Prelude.{◌≡◌, Bool, true, false, List, [], ◌∷◌, ◌⊎◌, ℕ, ◌<◌, length}
 use Rattle.words.specs.Le.{le_at, put_le}
 use Rattle.words.specs.Wrap.{next}
 use Rattle.types.specs.Pick.{pick}
@@ -14,7 +14,7 @@ use Rattle.types.specs.declared.Access.TheVariants.{WakeBell}
 use Rattle.types.specs.declared.Fault.{Fault}
 use Rattle.types.specs.declared.Fault.TheVariants.{Fine, Error}
 use Rattle.types.specs.declared.Step.{Step}
-use Rattle.types.specs.declared.Step.TheVariants.{Rest, Look, Wait, CloseSet, ShutSet, ShutRaiseNe, ShutWakeNe, ShutRaiseNf, ShutWakeNf}
+use Rattle.types.specs.declared.Step.TheVariants.{Rest, Look, Wake, Wait, CloseSet, CloseWake, ShutSet, ShutRaiseNe, ShutWakeNe, ShutRaiseNf, ShutWakeNf}
 use Rattle.types.specs.declared.Event.TheVariants.{Failing}
 use Rattle.types.specs.declared.Answer.{Answer}
 use Rattle.types.specs.declared.Answer.TheVariants.{Done, CorruptIndices, Syscall, GoesOn}
@@ -121,6 +121,17 @@ CloseTold side = (w : World) → sound side (party_in w side) ≡ true → lengt
     → (answers_of side (a ∷ []) w ≡ Done 0 0 ∷ [])
     × (((after_turns side (a ∷ []) w).region ≡ put_le 4 w.region flags_at (set_bit (worth (close_mark side)) (le_at 4 w.region flags_at))) × ((party_in (after_turns side (a ∷ []) w) side).step ≡ Rest)))
 
+-- P6, C6: a call's wake answers its length and tag, or 17 if it failed, and touches no byte
+abbrev pub wake_ends : Side → (length tag : ℕ) → Fault → Answer
+wake_ends side length tag Fine = Done length tag
+wake_ends side length tag (Error e) = Syscall (wake_no side) e
+
+abbrev pub WakeTold : Side → Type 0
+WakeTold side = (w : World) → sound side (party_in w side) ≡ true → length w.region ≡ total_bytes (party_in w side).own.power (party_in w side).own.slot
+    → (l t : ℕ) → (party_in w side).step ≡ Wake l t → (a : Lent) → NoneZero (a ∷ [])
+    → (answers_of side (a ∷ []) w ≡ wake_ends side l t a.fault ∷ [])
+    × (((after_turns side (a ∷ []) w).region ≡ w.region) × ((party_in (after_turns side (a ∷ []) w) side).step ≡ Rest))
+
 -- a wake that fails wakes nobody
 abbrev pub FailedWakesNobody : Type 0
 FailedWakesNobody = (side : Side) (r : List ℕ) (p : Party) (payload lent : List ℕ) (e : ℕ) → (turn_spec side r p payload lent (Error e)).woke ≡ Nobody
@@ -128,6 +139,16 @@ FailedWakesNobody = (side : Side) (r : List ℕ) (p : Party) (payload lent : Lis
 -- P6 and C6 wake one, and every other wake call wakes all
 abbrev pub WakesSoMany : Type 0
 WakesSoMany = (p : Party) (b : Bell) (n : ℕ) → next_spec p ≡ WakeBell b n → n ≡ pick (in_call p.step) 1 2147483647
+
+-- and on which bell: P6, C6 and a close on the one that its side rings, a shutdown and corruption on NE and then on NF
+pub data WakesOn (side : Side) : Step → Bell → Type 0 where
+  after_note : {l t : ℕ} → WakesOn side (Wake l t) (ring_bell side)
+  after_close : WakesOn side CloseWake (ring_bell side)
+  shut_ne : {c : Bool} → WakesOn side (ShutWakeNe c) NotEmpty
+  shut_nf : {c : Bool} {first : ℕ} → WakesOn side (ShutWakeNf c first) NotFull
+
+abbrev pub WakesThere : Type 0
+WakesThere = (p : Party) (b : Bell) (n : ℕ) → next_spec p ≡ WakeBell b n → WakesOn p.own.side p.step b
 
 -- the operation of a side's own wait: 0 on NE, 2 on NF
 abbrev pub wait_no : Side → ℕ

@@ -1,16 +1,21 @@
 -- What each answer leaves behind: document 01's paragraph under its table of answers.
 use Rattle.std.specs.Prelude.{◌≡◌, List, ℕ}
 use Rattle.types.specs.declared.Bench.{Bench}
+use Rattle.types.specs.declared.Party.{Party}
+use Rattle.types.specs.declared.Side.{Side}
+use Rattle.types.specs.declared.Side.TheVariants.{Sender, Recorder}
 use Rattle.types.specs.declared.Fault.TheVariants.{Fine, Error}
 use Rattle.types.specs.declared.Event.{Event}
 use Rattle.types.specs.declared.Event.TheVariants.{Turn, Failing, Spurious, TimeOut, Push, Pop, Close, Shutdown as Shut}
-use Rattle.types.specs.declared.Step.TheVariants.{Rest}
-use Rattle.types.specs.declared.Woke.TheVariants.{Nobody}
+use Rattle.types.specs.declared.Step.TheVariants.{Rest, Look, Asleep}
+use Rattle.types.specs.declared.Woke.{Woke}
+use Rattle.types.specs.declared.Woke.TheVariants.{Nobody, SleeperOn}
 use Rattle.types.specs.declared.Answer.{Answer}
 use Rattle.types.specs.declared.Answer.TheVariants.{Done, InvalidMagic, UnsupportedVersion, InvalidHeaderSize, InvalidLayout, InvalidCapacity, InvalidSlotSize, CorruptIndices, CorruptSlot, Full, Empty, Closed, Shutdown, Timeout, WouldBlock, OutputTooSmall, AlreadyAttached, Syscall, PayloadTooLong, NotFullOff, BadCall, Nothing, Begun, GoesOn}
 use Rattle.layout.specs.Create.{create_leaves}
 use Rattle.layout.specs.Attach.{unattached, attach_reply, attach_leaves}
-use Rattle.rules.specs.Calls.{push_spec, pop_spec, close_spec, shut_spec, spurious_spec, timeout_spec}
+use Rattle.rules.specs.Sides.{other, sleep_bell}
+use Rattle.rules.specs.Calls.{at, push_spec, pop_spec, close_spec, shut_spec, spurious_spec, timeout_spec}
 use Rattle.rules.specs.Turn.{turn_spec, turn_leaves, turn_buffer}
 use Rattle.rules.specs.Bench.{party_of, played, played_leaves, played_buffer}
 use Rattle.rules.specs.Given.{Ask, create, attach, push, pop, close, shutdown, spurious, timeout, turn, answered}
@@ -121,3 +126,45 @@ abbrev pub BenchAsks : Type 0
 BenchAsks = (r : List ℕ) (b : Bench) (payload buffer : List ℕ) (e : Event)
     → ((played r b payload buffer e).answer ≡ answered (ask_of r b payload buffer e))
     × AsAsk r buffer (played_leaves r b payload buffer e) (played_buffer r b payload buffer e) (ask_of r b payload buffer e)
+
+-- and of both parties: whose an event is, the record that it leaves that side, and whom it woke
+abbrev pub whose : Event → Side
+whose (Turn side) = side
+whose (Failing side error) = side
+whose (Spurious side) = side
+whose (TimeOut side) = side
+whose (Push blocking tag length) = Sender
+whose (Pop blocking length) = Recorder
+whose (Close side) = side
+whose (Shut side) = side
+
+abbrev pub record_after : (region : List ℕ) → Bench → (payload buffer : List ℕ) → Event → Party
+record_after r b i o (Turn side) = (turn_spec side r (party_of b side) i o Fine).party
+record_after r b i o (Failing side error) = (turn_spec side r (party_of b side) i o (Error error)).party
+record_after r b i o (Spurious side) = (spurious_spec side (party_of b side)).party
+record_after r b i o (TimeOut side) = (timeout_spec side (party_of b side)).party
+record_after r b i o (Push blocking tag length) = (push_spec b.sender blocking tag length).party
+record_after r b i o (Pop blocking length) = (pop_spec b.recorder blocking length).party
+record_after r b i o (Close side) = (close_spec side (party_of b side)).party
+record_after r b i o (Shut side) = (shut_spec side (party_of b side)).party
+
+abbrev pub woke_after : (region : List ℕ) → Bench → (payload buffer : List ℕ) → Event → Woke
+woke_after r b i o (Turn side) = (turn_spec side r (party_of b side) i o Fine).woke
+woke_after r b i o (Failing side error) = (turn_spec side r (party_of b side) i o (Error error)).woke
+woke_after r b i o (Spurious side) = Nobody
+woke_after r b i o (TimeOut side) = Nobody
+woke_after r b i o (Push blocking tag length) = Nobody
+woke_after r b i o (Pop blocking length) = Nobody
+woke_after r b i o (Close side) = Nobody
+woke_after r b i o (Shut side) = Nobody
+
+abbrev pub BenchSeats : Type 0
+BenchSeats = (r : List ℕ) (b : Bench) (payload buffer : List ℕ) (e : Event) → party_of (played r b payload buffer e).bench (whose e) ≡ record_after r b payload buffer e
+
+-- one that sleeps rises to its look where somebody on its own bell was woken; nothing else of the other's record ever changes
+abbrev pub Hears : Side → Woke → (before after : Party) → Type 0
+Hears side w p q = (w ≡ SleeperOn (sleep_bell side) → p.step ≡ Asleep → q ≡ at Look p) × ((w ≡ SleeperOn (sleep_bell side) → p.step ≡ Asleep → ⊥) → q ≡ p)
+
+abbrev pub BenchWakes : Type 0
+BenchWakes = (r : List ℕ) (b : Bench) (payload buffer : List ℕ) (e : Event)
+    → Hears (other (whose e)) (woke_after r b payload buffer e) (party_of b (other (whose e))) (party_of (played r b payload buffer e).bench (other (whose e)))

@@ -1,5 +1,5 @@
--- C2 over the bytes: what a pop's copy answers by the four words of its slot's header.
-use Rattle.std.specs.Prelude.{◌≡◌, true, List, ◌⊎◌, ℕ, ◌<◌, ◌≤◌, get_or}
+-- C2 over the bytes: what a pop's copy answers by the four words of its slot's header, and what it copies.
+use Rattle.std.specs.Prelude.{◌≡◌, true, List, ◌++◌, ◌⊎◌, ℕ, ◌<◌, ◌≤◌, get_or, take, drop}
 use Rattle.words.specs.Le.{le_at}
 use Rattle.types.specs.declared.Side.{Side}
 use Rattle.types.specs.declared.Side.TheVariants.{Recorder}
@@ -9,9 +9,9 @@ use Rattle.types.specs.declared.Step.{Step}
 use Rattle.types.specs.declared.Step.TheVariants.{Rest, Copy, Publish}
 use Rattle.types.specs.declared.Answer.{Answer}
 use Rattle.types.specs.declared.Answer.TheVariants.{CorruptSlot, OutputTooSmall, GoesOn}
-use Rattle.layout.specs.Limits.{payload_capacity}
+use Rattle.layout.specs.Limits.{slot_head_bytes, payload_capacity}
 use Rattle.rules.specs.Access.{slot_of}
-use Rattle.rules.specs.Turn.{taken, turn_spec}
+use Rattle.rules.specs.Turn.{taken, turn_spec, turn_buffer}
 
 module _ (r : List ℕ) (p : Party) where
   -- the 16 bits at a place of the party's slot: length at 0, tag at 2, slot flags at 4, the zero word at 6
@@ -38,3 +38,8 @@ module _ (side : Side) (r : List ℕ) (p : Party) (payload buffer : List ℕ) (f
   -- a pop at its copy that 20 does not refuse, over any region of bytes
   abbrev pub AnswersBySlot : Type 0
   AnswersBySlot = ((k : ℕ) → get_or r k 0 < 256) → taken side r p payload buffer fault ≡ true → p.own.side ≡ Recorder → p.step ≡ Copy → SlotAnswers
+
+  -- a note that fits, flag 0 set or not, then stands at the buffer's start, and the rest of the buffer is as it was
+  abbrev pub FillsBySlot : Type 0
+  FillsBySlot = ((k : ℕ) → get_or r k 0 < 256) → taken side r p payload buffer fault ≡ true → p.own.side ≡ Recorder → p.step ≡ Copy → SlotGood r p → word r p 0 ≤ p.length
+      → turn_buffer side r p payload buffer fault ≡ take (word r p 0) (drop slot_head_bytes (slot_of r p.own p.counter)) ++ drop (word r p 0) buffer
