@@ -1,4 +1,5 @@
 -- What a willing stretch needs of each turn: a call under way stays under way.
+use Rattle.std.specs.Prelude.{None}
 use mathlib.Core.Path.{◌≡◌, refl, ap, subst}
 use mathlib.Core.Bool.{Bool, true}
 use mathlib.Core.List.{List, ◌∷◌, ◌++◌}
@@ -9,7 +10,6 @@ use lib.ListN.{length}
 use Rattle.types.specs.declared.Side.{Side}
 use Rattle.types.specs.declared.Side.TheVariants.{Sender, Recorder}
 use Rattle.types.specs.declared.Party.{Party}
-use Rattle.types.specs.declared.Fault.TheVariants.{Fine}
 use Rattle.types.specs.declared.Step.{Step}
 use Rattle.types.specs.declared.Step.TheVariants.{Epoch}
 use Rattle.rules.specs.Sides.{other}
@@ -140,7 +140,7 @@ pub under-way : (side : Side) (w : World) → Underway side w → EpochFine side
 under-way Sender w u = (u, λ e. absurd (let z : ◌≡◌ {A = ℕ} 0 1 = cc in omega arith))
 under-way Recorder w u = (u.0, λ e. u.1)
 
-pub fair-turn : (side : Side) (w : World) → EpochFine side w → FairTurn side side Fine w
+pub fair-turn : (side : Side) (w : World) → EpochFine side w → FairTurn side side None w
 fair-turn Sender w f = λ e q. f (ap holds_epoch q)
 fair-turn Recorder w f = λ e q. f (ap holds_epoch q)
 

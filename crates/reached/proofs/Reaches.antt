@@ -1,4 +1,5 @@
 -- The bound is reached: document 01's eleven turns at capacity 2, on bytes.
+use Rattle.std.specs.Prelude.{None}
 use mathlib.Core.Path.{◌≡◌, refl, subst}
 use mathlib.Core.Bool.{Bool, true, false, ◌&&◌}
 use mathlib.Core.List.{List, [], ◌∷◌, ◌++◌}
@@ -13,7 +14,6 @@ use Rattle.types.specs.declared.Side.TheVariants.{Sender, Recorder}
 use Rattle.types.specs.declared.Answer.TheVariants.{Done}
 use Rattle.types.specs.declared.Step.TheVariants.{Rest}
 use Rattle.types.specs.declared.Event.TheVariants.{Turn, Failing, Spurious, TimeOut, Push, Pop, Close, Shutdown}
-use Rattle.types.specs.declared.Fault.TheVariants.{Fine}
 use Rattle.layout.specs.Attach.{magic_ok, version_ok, sizes_ok, flag_checks, ring_checks, region_checks, attach_checks, attach_answer, attach_reply, attach_leaves}
 use Rattle.layout.specs.Create.{create_answer, created}
 use Rattle.layout.specs.Header.{blank, headed}
@@ -86,7 +86,7 @@ abbrev pub calm : (waiter : Side) → List Happening → World → Bool
 calm σ [] w = true
 calm σ (h ∷ hs) w = (calm-one h && ltb (rung σ w) (2 ^ 32)) && calm σ hs (happens h w)
 
-calm-turn : (σ side : Side) (w : World) → rung σ w < 2 ^ 32 → FairTurn σ side Fine w
+calm-turn : (σ side : Side) (w : World) → rung σ w < 2 ^ 32 → FairTurn σ side None w
 calm-turn Sender Sender w h = λ e q. h
 calm-turn Sender Recorder w h = λ u q. refl
 calm-turn Recorder Sender w h = λ u q. refl

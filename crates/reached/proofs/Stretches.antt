@@ -1,4 +1,5 @@
 -- Willing stretches of every length exist.
+use Rattle.std.specs.Prelude.{None}
 use mathlib.Core.Path.{◌≡◌, refl, sym, ap, ◌∙◌, subst}
 use mathlib.Core.Bool.{Bool, true, false}
 use mathlib.Core.List.{List, [], ◌∷◌, ◌++◌}
@@ -10,7 +11,6 @@ use lib.Seq.{get_or-append_seam}
 use Rattle.types.specs.declared.Side.{Side}
 use Rattle.types.specs.declared.Side.TheVariants.{Sender, Recorder}
 use Rattle.types.specs.declared.Party.{Party}
-use Rattle.types.specs.declared.Fault.TheVariants.{Fine}
 use Rattle.types.specs.declared.Event.TheVariants.{Turn, Spurious, Push, Pop}
 use Rattle.types.specs.declared.Step.{Step}
 use Rattle.types.specs.declared.Step.TheVariants.{Rest, Look, Epoch, Asleep}
@@ -71,14 +71,14 @@ module _ (P S v : ℕ) (on : Bool) (power-ok : power_ok P ≡ true) (slot-ok : s
     abbrev lent : List ℕ
     lent = blank_of p.length
 
-    g : takes w side lent lent Fine ≡ true
+    g : takes w side lent lent None ≡ true
     g = takes-here P S v on power-ok slot-ok w a.real a.sized side a.here
 
     abbrev next : Step
-    next = next-step P S v on power-ok slot-ok w a.real side lent lent Fine g
+    next = next-step P S v on power-ok slot-ok w a.real side lent lent None g
 
     abbrev after : World
-    after = after_turn P S v on power-ok slot-ok w a.real side lent lent Fine g
+    after = after_turn P S v on power-ok slot-ok w a.real side lent lent None g
 
     abbrev buffer : List ℕ
     buffer = buffer_of w.region p.own (next_at s side p.counter) p.length lent
@@ -87,13 +87,13 @@ module _ (P S v : ℕ) (on : Bool) (power-ok : power_ok P ≡ true) (slot-ok : s
     told = traced (next_at s side p.counter) p lent buffer w.trace
 
     me : party_in after side ≡ moved p s next
-    me = mover-is P S v on power-ok slot-ok w a.real side lent lent Fine g
+    me = mover-is P S v on power-ok slot-ok w a.real side lent lent None g
 
     trail : after.trace ≡ told
-    trail = trace-is P S v on power-ok slot-ok w a.real side lent lent Fine g
+    trail = trace-is P S v on power-ok slot-ok w a.real side lent lent None g
 
-    leads : Leads (sight P S v on power-ok slot-ok w a.real side lent lent Fine g) s next
-    leads = leads-here P S v on power-ok slot-ok w a.real side lent lent Fine g
+    leads : Leads (sight P S v on power-ok slot-ok w a.real side lent lent None g) s next
+    leads = leads-here P S v on power-ok slot-ok w a.real side lent lent None g
 
     epoch-after : EpochFine side after
     epoch-after e = by (epoch-on _ s next leads (rw me at e))
@@ -114,8 +114,8 @@ module _ (P S v : ℕ) (on : Bool) (power-ok : power_ok P ≡ true) (slot-ok : s
     able-after : Able side after
     able-after =
         record {
-          real = subst (Real P S v on) (turn-is-after P S v on power-ok slot-ok w a.real side lent lent Fine g) (real-turned P S v on power-ok slot-ok w a.real side lent lent Fine);
-          sized = subst Sized (turn-is-after P S v on power-ok slot-ok w a.real side lent lent Fine g) (sized-turn w side lent lent Fine a.sized);
+          real = subst (Real P S v on) (turn-is-after P S v on power-ok slot-ok w a.real side lent lent None g) (real-turned P S v on power-ok slot-ok w a.real side lent lent None);
+          sized = subst Sized (turn-is-after P S v on power-ok slot-ok w a.real side lent lent None g) (sized-turn w side lent lent None a.sized);
           here = ap (λ (q : Party). q.own.attached) me ∙ a.here;
           open-still = ap (λ (q : Party). q.closed) me ∙ stays_open s a.calls p.closed ∙ a.open-still;
           calls = rw me (calls-on _ s next leads a.calls);
@@ -132,7 +132,7 @@ module _ (P S v : ℕ) (on : Bool) (power-ok : power_ok P ≡ true) (slot-ok : s
           fair = λ h. fair-turn side w a.epoch-fine;
           wills = (refl, big-turn side w a.big-fine);
           count = rw (g, move);
-          able = subst (Able side) (sym (turn-is-after P S v on power-ok slot-ok w a.real side lent lent Fine g)) able-after;
+          able = subst (Able side) (sym (turn-is-after P S v on power-ok slot-ok w a.real side lent lent None g)) able-after;
         }
 
     is-sound : sound side p ≡ true

@@ -11,7 +11,7 @@ use Rattle.types.specs.declared.Side.{Side}
 use Rattle.types.specs.declared.Side.TheVariants.{Sender, Recorder}
 use Rattle.types.specs.declared.Bell.TheVariants.{NotEmpty, NotFull}
 use Rattle.types.specs.declared.Party.{Party}
-use Rattle.types.specs.declared.Fault.{Fault}
+use Rattle.types.specs.Faults.{Fault}
 use Rattle.types.specs.declared.Room.{Room}
 use Rattle.types.specs.declared.Room.TheVariants.{Corrupt, Blocked, Free}
 use Rattle.types.specs.declared.Door.{Door}

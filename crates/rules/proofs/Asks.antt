@@ -1,4 +1,5 @@
 -- T2: a willing party alone gets all that there is room for.
+use Rattle.std.specs.Prelude.{None, Some}
 use mathlib.Core.Path.{◌≡◌, refl, sym, ◌∙◌, subst}
 use mathlib.Core.Bool.{Bool, true, false, not, ◌&&◌}
 use mathlib.Core.List.{List, [], ◌∷◌, ◌++◌}
@@ -12,8 +13,7 @@ use Rattle.types.specs.declared.Side.TheVariants.{Sender, Recorder}
 use Rattle.types.specs.declared.Party.{Party}
 use Rattle.types.specs.declared.Reply.{Reply}
 use Rattle.types.specs.declared.Answer.TheVariants.{GoesOn}
-use Rattle.types.specs.declared.Fault.{Fault}
-use Rattle.types.specs.declared.Fault.TheVariants.{Fine, Error}
+use Rattle.types.specs.Faults.{Fault}
 use Rattle.types.specs.declared.Event.TheVariants.{Turn, Failing, Spurious, TimeOut, Push, Pop, Close, Shutdown}
 use Rattle.types.specs.declared.Step.{Step}
 use Rattle.types.specs.declared.Step.TheVariants.{Rest, Look, Asleep, LastLook}
@@ -121,8 +121,8 @@ module _ (P S v : ℕ) (on heed : Bool) where
         → Stint P S v on heed side notes (tick_by counted h w + n) w → Stint P S v on heed side notes n (happens h w)
     unfolding happens played played_leaves settled
     going-happens side (attaches other spins) w t m real y notes n go = absurd m
-    going-happens side (plays (Turn mover) i o) w t m real y notes n go = turned w real side mover i o Fine m.0 m.1 y notes n go
-    going-happens side (plays (Failing mover e) i o) w t m real y notes n go = turned w real side mover i o (Error e) m.0 m.1 y notes n go
+    going-happens side (plays (Turn mover) i o) w t m real y notes n go = turned w real side mover i o None m.0 m.1 y notes n go
+    going-happens side (plays (Failing mover e) i o) w t m real y notes n go = turned w real side mover i o (Some e) m.0 m.1 y notes n go
     going-happens side (plays (Spurious mover) i o) w t m real y notes n go =
         rw m (going-called w side (spurious_spec side (party_in w side)).party (spurious-changes side (party_in w side)) (spurious-asks side (party_in w side)) notes n (no-tick notes n side w go))
     going-happens side (plays (TimeOut mover) i o) w t m real y notes n go =

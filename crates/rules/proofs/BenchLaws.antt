@@ -1,4 +1,5 @@
 -- What an event makes of both parties of a bench.
+use Rattle.std.specs.Prelude.{None, Some}
 use mathlib.Core.Path.{◌≡◌, refl}
 use mathlib.Core.Bool.{Bool, true, false}
 use Prim.Native.Nat.{ℕ}
@@ -11,8 +12,7 @@ use Rattle.types.specs.declared.Party.{Party}
 use Rattle.types.specs.declared.Turned.{Turned}
 use Rattle.types.specs.declared.Reply.{Reply}
 use Rattle.types.specs.declared.Step.TheVariants.{Asleep}
-use Rattle.types.specs.declared.Woke.{Woke}
-use Rattle.types.specs.declared.Woke.TheVariants.{Nobody, SleeperOn}
+use Rattle.types.specs.Faults.{Woke}
 use Rattle.types.specs.declared.Event.TheVariants.{Turn, Failing, Spurious, TimeOut, Push, Pop, Close, Shutdown as Shut}
 use Rattle.rules.specs.Sides.{other, sleep_bell}
 use Rattle.rules.specs.Take.{stance_of}
@@ -45,22 +45,22 @@ bench-seats r b i o (Shut side) = settled-seat b side _
 -- a sleeper on that bell, or not
 heard : (σ : Side) (p : Party) (w : Woke) → Hears σ w p (wakened σ p w)
 unfolding wakened
-heard σ p Nobody = (λ e. absurd (let z : ◌≡◌ {A = ℕ} 0 1 = cc in omega arith), λ h. refl)
-heard Sender p (SleeperOn NotEmpty) = (λ e. absurd (let z : ◌≡◌ {A = ℕ} 0 1 = cc in omega arith), λ h. refl)
-heard Recorder p (SleeperOn NotFull) = (λ e. absurd (let z : ◌≡◌ {A = ℕ} 0 1 = cc in omega arith), λ h. refl)
-heard Sender p (SleeperOn NotFull) = (λ e q. rw q, λ h. by (is_sleeping (stance_of p.step)) refl h)
+heard σ p None = (λ e. absurd (let z : ◌≡◌ {A = ℕ} 0 1 = cc in omega arith), λ h. refl)
+heard Sender p (Some NotEmpty) = (λ e. absurd (let z : ◌≡◌ {A = ℕ} 0 1 = cc in omega arith), λ h. refl)
+heard Recorder p (Some NotFull) = (λ e. absurd (let z : ◌≡◌ {A = ℕ} 0 1 = cc in omega arith), λ h. refl)
+heard Sender p (Some NotFull) = (λ e q. rw q, λ h. by (is_sleeping (stance_of p.step)) refl h)
   where
-    by : (x : Bool) → is_sleeping (stance_of p.step) ≡ x → (SleeperOn NotFull ≡ SleeperOn (sleep_bell Sender) → p.step ≡ Asleep → ⊥) → wakened Sender p (SleeperOn NotFull) ≡ p
+    by : (x : Bool) → is_sleeping (stance_of p.step) ≡ x → (Some NotFull ≡ Some (sleep_bell Sender) → p.step ≡ Asleep → ⊥) → wakened Sender p (Some NotFull) ≡ p
     by true e h = absurd (h refl (sleeping-step p.step e))
     by false e h = rw e
-heard Recorder p (SleeperOn NotEmpty) = (λ e q. rw q, λ h. by (is_sleeping (stance_of p.step)) refl h)
+heard Recorder p (Some NotEmpty) = (λ e q. rw q, λ h. by (is_sleeping (stance_of p.step)) refl h)
   where
-    by : (x : Bool) → is_sleeping (stance_of p.step) ≡ x → (SleeperOn NotEmpty ≡ SleeperOn (sleep_bell Recorder) → p.step ≡ Asleep → ⊥) → wakened Recorder p (SleeperOn NotEmpty) ≡ p
+    by : (x : Bool) → is_sleeping (stance_of p.step) ≡ x → (Some NotEmpty ≡ Some (sleep_bell Recorder) → p.step ≡ Asleep → ⊥) → wakened Recorder p (Some NotEmpty) ≡ p
     by true e h = absurd (h refl (sleeping-step p.step e))
     by false e h = rw e
 
 -- a call, or what comes to a sleeper, wakes nobody
-settled-other : (b : Bench) (side : Side) (r : Reply) → Hears (other side) Nobody (party_of b (other side)) (party_of (settled b side r).bench (other side))
+settled-other : (b : Bench) (side : Side) (r : Reply) → Hears (other side) None (party_of b (other side)) (party_of (settled b side r).bench (other side))
 unfolding settled
 settled-other b Sender r = (λ e. absurd (let z : ◌≡◌ {A = ℕ} 0 1 = cc in omega arith), λ h. refl)
 settled-other b Recorder r = (λ e. absurd (let z : ◌≡◌ {A = ℕ} 0 1 = cc in omega arith), λ h. refl)

@@ -9,7 +9,7 @@ use Rattle.types.specs.declared.Side.{Side}
 use Rattle.types.specs.declared.Side.TheVariants.{Recorder}
 use Rattle.types.specs.declared.Own.{Own}
 use Rattle.types.specs.declared.Party.{Party}
-use Rattle.types.specs.declared.Fault.{Fault}
+use Rattle.types.specs.Faults.{Fault}
 use Rattle.types.specs.declared.Fit.{Fit}
 use Rattle.types.specs.declared.Fit.TheVariants.{Bad, Small, Fits}
 use Rattle.types.specs.declared.Access.{Access}

@@ -1,4 +1,5 @@
 -- Corruption is told, over any region.
+use Rattle.std.specs.Prelude.{None, Some}
 use mathlib.Core.Path.{◌≡◌, refl, ap, ◌∙◌, subst}
 use mathlib.Core.Bool.{Bool, true, false}
 use mathlib.Core.List.{List, [], ◌∷◌}
@@ -13,14 +14,12 @@ use Rattle.types.specs.declared.Side.{Side}
 use Rattle.types.specs.declared.Side.TheVariants.{Sender, Recorder}
 use Rattle.types.specs.declared.Party.{Party}
 use Rattle.types.specs.declared.Turned.{Turned}
-use Rattle.types.specs.declared.Fault.{Fault}
-use Rattle.types.specs.declared.Fault.TheVariants.{Fine, Error}
+use Rattle.types.specs.Faults.{Fault}
 use Rattle.types.specs.declared.Stance.TheVariants.{Moving}
 use Rattle.types.specs.declared.Room.TheVariants.{Corrupt}
 use Rattle.types.specs.declared.Own.{Own}
-use Rattle.types.specs.declared.Woke.TheVariants.{Nobody}
 use Rattle.types.specs.declared.Access.{Access}
-use Rattle.types.specs.declared.Access.TheVariants.{None, LoadCounter, LoadFlags, LoadBell, WriteSlot, ReadSlot, StoreCounter, RaiseBell, SetFlag, WaitBell, WakeBell}
+use Rattle.types.specs.declared.Access.TheVariants.{None as NoAccess, LoadCounter, LoadFlags, LoadBell, WriteSlot, ReadSlot, StoreCounter, RaiseBell, SetFlag, WaitBell, WakeBell}
 use Rattle.types.specs.declared.Move.{Move}
 use Rattle.types.specs.declared.Move.TheVariants.{To, End}
 use Rattle.types.specs.declared.Step.{Step}
@@ -58,7 +57,7 @@ module _ (side : Side) (p : Party) (ok : sound side p ≡ true) where
     region : w.region ≡ R
     long : length R ≡ total_bytes p.own.power p.own.slot
 
-  module _ (s : Step) (R : List ℕ) (long : length R ≡ total_bytes p.own.power p.own.slot) (moving : stance_of s ≡ Moving) (l : Lent) (fine : l.fault ≡ Error 0 → ⊥) where
+  module _ (s : Step) (R : List ℕ) (long : length R ≡ total_bytes p.own.power p.own.slot) (moving : stance_of s ≡ Moving) (l : Lent) (fine : l.fault ≡ Some 0 → ⊥) where
     goes_on : taken side R (at s p) l.payload l.buffer l.fault ≡ true
     unfolding goes sound
     goes_on = rw (ok, eq-eqb (length R) (total_bytes p.own.power p.own.slot) long, moving, fault-fine l.fault fine)
@@ -79,7 +78,7 @@ module _ (side : Side) (p : Party) (ok : sound side p ≡ true) where
     leaves-on = leaves-is side R (at s p) l.payload l.buffer l.fault goes_on
 
   -- one turn
-  turn_on : (s : Step) (R : List ℕ) (w : World) → stance_of s ≡ Moving → (l : Lent) → (l.fault ≡ Error 0 → ⊥) → (m : Move) → At s R w
+  turn_on : (s : Step) (R : List ℕ) (w : World) → stance_of s ≡ Moving → (l : Lent) → (l.fault ≡ Some 0 → ⊥) → (m : Move) → At s R w
       → move_at s p.own p.counter p.blocking p.length (value_of R p.own (next_at s p.own.side p.counter)) (error_of l.fault) ≡ m
       → (told side w l.payload l.buffer l.fault ≡ answer_of m) × At (step_after m s) (leaves_of R p.own (next_at s p.own.side p.counter) p.tag l.payload) (happens (turn_by side l) w)
   turn_on s R w moving l fine m d e =
@@ -155,22 +154,22 @@ module _ (side : Side) (p : Party) (ok : sound side p ≡ true) where
         let t6 = turn_on (ShutWakeNf true (error_of d.fault)) _ w5 refl f z.1.1.1.1.1.0 (End CorruptIndices) t5.1 refl in
         (rw (t1.0, t2.0, t3.0, t4.0, t5.0, t6.0), (t6.1.region, ap (λ (q : Party). q.step) t6.1.party))
 
-pub fault-above : (side : Side) (p : Party) (r i o n : ℕ) → goes side p r i o (Error n) ≡ true → 0 < n
+pub fault-above : (side : Side) (p : Party) (r i o n : ℕ) → goes side p r i o (Some n) ≡ true → 0 < n
 unfolding goes
 fault-above side p r i o n g =
     ltb-true 0 n (and_right (lent_ok (stance_of p.step) (lent_to side i o) p.length) (ltb 0 n) (and_right (eqb r (total_bytes p.own.power p.own.slot)) _ (and_right (sound side p) _ g)))
 
 -- a fault that is no error 0
-errors : (f : Fault) → (f ≡ Error 0 → ⊥) → (F : Fault → Type 0) → F Fine → ((e : ℕ) → eqb e 0 ≡ false → F (Error e)) → F f
-errors Fine n F x y = x
-errors (Error zero) n F x y = absurd (n refl)
-errors (Error (suc e)) n F x y = y (suc e) (ne_eqb (suc e) 0 (λ q. omega arith))
+errors : (f : Fault) → (f ≡ Some 0 → ⊥) → (F : Fault → Type 0) → F None → ((e : ℕ) → eqb e 0 ≡ false → F (Some e)) → F f
+errors None n F x y = x
+errors (Some zero) n F x y = absurd (n refl)
+errors (Some (suc e)) n F x y = y (suc e) (ne_eqb (suc e) 0 (λ q. omega arith))
 
-shut-ends : (c e : Fault) → (c ≡ Error 0 → ⊥) → (e ≡ Error 0 → ⊥) → shut_move false (error_of c) (error_of e) ≡ End (first_failed c e)
+shut-ends : (c e : Fault) → (c ≡ Some 0 → ⊥) → (e ≡ Some 0 → ⊥) → shut_move false (error_of c) (error_of e) ≡ End (first_failed c e)
 unfolding shut_move
 shut-ends c e m n =
     errors c m (λ x. shut_move false (error_of x) (error_of e) ≡ End (first_failed x e))
-    (errors e n (λ y. shut_move false 0 (error_of y) ≡ End (first_failed Fine y)) refl (λ k q. rw q)) (λ k q. rw q)
+    (errors e n (λ y. shut_move false 0 (error_of y) ≡ End (first_failed None y)) refl (λ k q. rw q)) (λ k q. rw q)
 
 pub shutdown-told : (side : Side) → ShutdownTold side
 unfolding leaves_of
@@ -198,7 +197,7 @@ unfolding sound
 parted-sound side p ok = ok
 
 -- a close's first turn
-close-on : (side : Side) (p : Party) (ok : sound side p ≡ true) (R : List ℕ) (w : World) (l : Lent) → (l.fault ≡ Error 0 → ⊥) → (m : Move) → At side p ok CloseSet R w → close_move p.own ≡ m
+close-on : (side : Side) (p : Party) (ok : sound side p ≡ true) (R : List ℕ) (w : World) (l : Lent) → (l.fault ≡ Some 0 → ⊥) → (m : Move) → At side p ok CloseSet R w → close_move p.own ≡ m
     → (told side w l.payload l.buffer l.fault ≡ answer_of m)
     × At side (parted p) (parted-sound side p ok) (step_after m CloseSet) (leaves_of R p.own (SetFlag (close_mark p.own.side)) p.tag l.payload) (happens (turn_by side l) w)
 unfolding goes sound act_spec take_spec move_of next_spec made act_leaves
@@ -215,11 +214,11 @@ close-on side p ok R w l fine m d e =
       },
     )
 
-close-wake : (side τ : Side) → τ ≡ side → (own : Own) → own.side ≡ τ → (f : Fault) → (f ≡ Error 0 → ⊥) → wake_move own (error_of f) 0 0 ≡ End (close_ends side f)
+close-wake : (side τ : Side) → τ ≡ side → (own : Own) → own.side ≡ τ → (f : Fault) → (f ≡ Some 0 → ⊥) → wake_move own (error_of f) 0 0 ≡ End (close_ends side f)
 unfolding wake_move
 close-wake side τ o own q f n = errors f n (λ x. wake_move own (error_of x) 0 0 ≡ End (close_ends side x)) refl (λ k e. rw (e, q, o) (by side k))
   where
-    by : (side : Side) (k : ℕ) → End (Syscall (wake_op (ring_bell side)) k) ≡ End (close_ends side (Error k))
+    by : (side : Side) (k : ℕ) → End (Syscall (wake_op (ring_bell side)) k) ≡ End (close_ends side (Some k))
     by Sender k = refl
     by Recorder k = refl
 
@@ -253,11 +252,11 @@ close-told side w ok long s a b c z =
           (rw t1.0, (t1.1.region ∙ rw mine, ap (λ (q : Party). q.step) t1.1.party)),
     )
 
-wake-end : (side τ : Side) → τ ≡ side → (own : Own) → own.side ≡ τ → (l t : ℕ) (f : Fault) → (f ≡ Error 0 → ⊥) → wake_move own (error_of f) l t ≡ End (wake_ends side l t f)
+wake-end : (side τ : Side) → τ ≡ side → (own : Own) → own.side ≡ τ → (l t : ℕ) (f : Fault) → (f ≡ Some 0 → ⊥) → wake_move own (error_of f) l t ≡ End (wake_ends side l t f)
 unfolding wake_move
 wake-end side τ o own q l t f n = errors f n (λ x. wake_move own (error_of x) l t ≡ End (wake_ends side l t x)) refl (λ k e. rw (e, q, o) (by side k))
   where
-    by : (side : Side) (k : ℕ) → End (Syscall (wake_op (ring_bell side)) k) ≡ End (wake_ends side l t (Error k))
+    by : (side : Side) (k : ℕ) → End (Syscall (wake_op (ring_bell side)) k) ≡ End (wake_ends side l t (Some k))
     by Sender k = refl
     by Recorder k = refl
 
@@ -286,10 +285,10 @@ corruption-told side w ok long k above ls n z = by ls n z
 
 pub failed-wakes-nobody : FailedWakesNobody
 unfolding turn_spec act_spec
-failed-wakes-nobody side r p payload lent e = by (taken side r p payload lent (Error e)) refl
+failed-wakes-nobody side r p payload lent e = by (taken side r p payload lent (Some e)) refl
   where
-    none : (a : Access) → 0 < e → woke_of a e ≡ Nobody
-    none None h = refl
+    none : (a : Access) → 0 < e → woke_of a e ≡ None
+    none NoAccess h = refl
     none (LoadCounter s) h = refl
     none LoadFlags h = refl
     none (LoadBell b) h = refl
@@ -301,6 +300,6 @@ failed-wakes-nobody side r p payload lent e = by (taken side r p payload lent (E
     none (WaitBell b n) h = refl
     none (WakeBell b n) h = rw (lt-ltb 0 e h)
 
-    by : (b : Bool) → taken side r p payload lent (Error e) ≡ b → (turn_spec side r p payload lent (Error e)).woke ≡ Nobody
+    by : (b : Bool) → taken side r p payload lent (Some e) ≡ b → (turn_spec side r p payload lent (Some e)).woke ≡ None
     by true g = rw g (none (next_spec p) (fault-above side p (length r) (length payload) (length lent) e g))
     by false g = rw g

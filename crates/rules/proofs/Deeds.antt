@@ -1,4 +1,5 @@
 -- Where both move: what a happening, whoever's it is, makes of both.
+use Rattle.std.specs.Prelude.{None, Some}
 use mathlib.Core.Path.{◌≡◌, refl, sym, ap, ◌∙◌, subst}
 use mathlib.Core.Bool.{Bool, true, false, ◌&&◌}
 use mathlib.Core.List.{List, [], ◌∷◌}
@@ -15,8 +16,7 @@ use Rattle.types.specs.declared.Side.TheVariants.{Sender, Recorder}
 use Rattle.types.specs.declared.Bell.TheVariants.{NotEmpty, NotFull}
 use Rattle.types.specs.declared.Party.{Party}
 use Rattle.types.specs.declared.Mark.{Mark}
-use Rattle.types.specs.declared.Fault.{Fault}
-use Rattle.types.specs.declared.Fault.TheVariants.{Fine, Error}
+use Rattle.types.specs.Faults.{Fault}
 use Rattle.types.specs.declared.Event.TheVariants.{Turn, Failing, Spurious, TimeOut, Push, Pop, Close, Shutdown}
 use Rattle.types.specs.declared.Step.{Step}
 use Rattle.types.specs.declared.Step.TheVariants.{Rest, Look, Copy, Wait, Asleep}
@@ -238,8 +238,8 @@ module _ (P S v : ℕ) (on : Bool) where
     pub deed : (h : Happening) (w : World) → Typed h → Real P S v on w → Deed h (done_by h) w (happens h w)
     unfolding happens played played_leaves settled
     deed (attaches side spins) w t real = stays (joined power-ok slot-ok w real side spins)
-    deed (plays (Turn side) i o) w t real = turned power-ok slot-ok w real side i o Fine (plays (Turn side) i o) (λ c. refl) (λ x. x.1) (λ f. f)
-    deed (plays (Failing side e) i o) w t real = turned power-ok slot-ok w real side i o (Error e) (plays (Failing side e) i o) (λ c. refl) (λ x. x.1) (λ f. f)
+    deed (plays (Turn side) i o) w t real = turned power-ok slot-ok w real side i o None (plays (Turn side) i o) (λ c. refl) (λ x. x.1) (λ f. f)
+    deed (plays (Failing side e) i o) w t real = turned power-ok slot-ok w real side i o (Some e) (plays (Failing side e) i o) (λ c. refl) (λ x. x.1) (λ f. f)
     deed (plays (Spurious side) i o) w t real = stays (called (plays (Spurious side) i o) w side (spurious_spec side (party_in w side)).party (λ c. refl) (spurious-changes side (party_in w side)) (λ x. spurious-asks side (party_in w side)))
     deed (plays (TimeOut side) i o) w t real = stays (called (plays (TimeOut side) i o) w side (timeout_spec side (party_in w side)).party (λ c. refl) (timeout-changes side (party_in w side)) (λ x. timeout-asks side (party_in w side)))
     deed (plays (Push b g l) i o) w t real = stays (called (plays (Push b g l) i o) w Sender (push_spec (party_in w Sender) b g l).party (λ c. refl) (push-changes (party_in w Sender) b g l t) (λ x. push-asks (party_in w Sender) b g l))

@@ -1,4 +1,5 @@
 -- The Done that ends a pop carries what the pop delivered; and a willing recorder gets all that was sent.
+use Rattle.std.specs.Prelude.{None, Some}
 use mathlib.Core.Path.{◌≡◌, refl, sym, ap, ◌∙◌, subst}
 use mathlib.Core.Bool.{Bool, true, false}
 use mathlib.Core.List.{List, [], ◌∷◌, ◌++◌, append-nil}
@@ -13,8 +14,7 @@ use Rattle.types.specs.declared.Side.TheVariants.{Recorder}
 use Rattle.types.specs.declared.Own.{Own}
 use Rattle.types.specs.declared.Party.{Party}
 use Rattle.types.specs.declared.Turned.{Turned}
-use Rattle.types.specs.declared.Fault.{Fault}
-use Rattle.types.specs.declared.Fault.TheVariants.{Fine, Error}
+use Rattle.types.specs.Faults.{Fault}
 use Rattle.types.specs.declared.Step.{Step}
 use Rattle.types.specs.declared.Step.TheVariants.{Check, Raise}
 use Rattle.types.specs.declared.Move.TheVariants.{To, End}
@@ -71,8 +71,8 @@ module _ (P S v : ℕ) (on : Bool) (r : List ℕ) (p : Party) (payload buffer : 
 
 pub turn-happens : (side : Side) (payload lent : List ℕ) (fault : Fault) (w : World) → happens (plays (turn_of side fault) payload lent) w ≡ turn_world w side payload lent fault
 unfolding happens played played_leaves settled
-turn-happens side payload lent Fine w = refl
-turn-happens side payload lent (Error e) w = refl
+turn-happens side payload lent None w = refl
+turn-happens side payload lent (Some e) w = refl
 
 module _ (r : List ℕ) (P S : ℕ) (on : Bool) (v : ℕ) (fresh : Fresh r P S on v) where
   pub done-carries : DoneCarries r P S on v

@@ -1,4 +1,5 @@
 -- T9: a sleeper's turn changes nothing.
+use Rattle.std.specs.Prelude.{None, Some}
 use mathlib.Core.Path.{◌≡◌, refl, sym, ap, ◌∙◌}
 use mathlib.Core.Bool.{Bool, true, false}
 use mathlib.Core.List.{List}
@@ -7,12 +8,10 @@ use Rattle.types.specs.declared.Side.{Side}
 use Rattle.types.specs.declared.Party.{Party}
 use Rattle.types.specs.declared.Bench.{Bench}
 use Rattle.types.specs.declared.Turned.{Turned}
-use Rattle.types.specs.declared.Fault.{Fault}
-use Rattle.types.specs.declared.Fault.TheVariants.{Fine, Error}
+use Rattle.types.specs.Faults.{Fault}
 use Rattle.types.specs.declared.Answer.TheVariants.{Nothing}
 use Rattle.types.specs.declared.Access.{Access}
-use Rattle.types.specs.declared.Access.TheVariants.{None}
-use Rattle.types.specs.declared.Woke.TheVariants.{Nobody}
+use Rattle.types.specs.declared.Access.TheVariants.{None as NoAccess}
 use Rattle.types.specs.declared.Step.{Step}
 use Rattle.types.specs.declared.Step.TheVariants.{Asleep}
 use Rattle.rules.specs.Sides.{other}
@@ -32,7 +31,7 @@ module _ (w : World) (side : Side) (payload lent : List ℕ) (fault : Fault) (e 
   abbrev sleeper : Party
   sleeper = party_in w side
 
-  none_is : next_spec sleeper ≡ None
+  none_is : next_spec sleeper ≡ NoAccess
   unfolding next_spec
   none_is = ap (λ (u : Step). next_at u sleeper.own.side sleeper.counter) e
 
@@ -70,7 +69,7 @@ module _ (w : World) (side : Side) (payload lent : List ℕ) (fault : Fault) (e 
       }) none_is
       ∙ ap (λ (q : Party). record {
         region = w.region;
-        bench = seat (seat w.bench side q) (other side) (wakened (other side) (party_in w (other side)) Nobody);
+        bench = seat (seat w.bench side q) (other side) (wakened (other side) (party_in w (other side)) None);
         trace = w.trace;
       }) (same-party (value_of w.region sleeper.own (next_spec sleeper)) (error_of fault))
       ∙ ap (λ (b : Bench). record { region = w.region; bench = b; trace = w.trace }) (reseated side w.bench)
@@ -84,8 +83,8 @@ module _ (w : World) (side : Side) (payload lent : List ℕ) (fault : Fault) (e 
 
   turn-happens : (f : Fault) → f ≡ fault → happens (plays (turn_of side f) payload lent) w ≡ turn_world w side payload lent f
   unfolding happens played played_leaves settled
-  turn-happens Fine q = refl
-  turn-happens (Error n) q = refl
+  turn-happens None q = refl
+  turn-happens (Some n) q = refl
 
   answers-nothing : takes w side payload lent fault ≡ true → (turn_spec side w.region sleeper payload lent fault).answer ≡ Nothing
   unfolding act_spec take_spec move_of

@@ -1,4 +1,5 @@
 -- T9: sleepers sleep.
+use Rattle.std.specs.Prelude.{None}
 use mathlib.Core.Path.{◌≡◌, refl, sym, ap, ◌∙◌, subst}
 use mathlib.Core.Bool.{Bool, true, false, ◌||◌}
 use mathlib.Core.List.{List}
@@ -10,7 +11,6 @@ use Rattle.words.specs.Le.{le_at}
 use Rattle.types.specs.Pick.{pick}
 use Rattle.types.specs.declared.Side.{Side}
 use Rattle.types.specs.declared.Party.{Party}
-use Rattle.types.specs.declared.Fault.TheVariants.{Fine}
 use Rattle.types.specs.declared.Access.{Access}
 use Rattle.types.specs.declared.Step.{Step}
 use Rattle.types.specs.declared.Step.TheVariants.{Look, Again, Wait, Asleep}
@@ -53,7 +53,7 @@ module _ (P S v : ℕ) (on : Bool) (power-ok : power_ok P ≡ true) (slot-ok : s
     waits : in_wait (party_in w side).step ≡ true
     left : to_sleep (bell side w) (party_in w side).own.spins (party_in w side).step ≡ n
 
-  module _ (side : Side) (w : World) (n : ℕ) (d : Drowsy side n w) (payload lent : List ℕ) (g : takes w side payload lent Fine ≡ true) where
+  module _ (side : Side) (w : World) (n : ℕ) (d : Drowsy side n w) (payload lent : List ℕ) (g : takes w side payload lent None ≡ true) where
     abbrev p : Party
     p = party_in w side
 
@@ -61,26 +61,26 @@ module _ (P S v : ℕ) (on : Bool) (power-ok : power_ok P ≡ true) (slot-ok : s
     s = p.step
 
     abbrev next : Step
-    next = next-step P S v on power-ok slot-ok w d.real side payload lent Fine g
+    next = next-step P S v on power-ok slot-ok w d.real side payload lent None g
 
     abbrev after : World
-    after = after_turn P S v on power-ok slot-ok w d.real side payload lent Fine g
+    after = after_turn P S v on power-ok slot-ok w d.real side payload lent None g
 
     abbrev a : Access
     a = next_at s side p.counter
 
     me : party_in after side ≡ moved p s next
-    me = mover-is P S v on power-ok slot-ok w d.real side payload lent Fine g
+    me = mover-is P S v on power-ok slot-ok w d.real side payload lent None g
 
     naps-here : (e : ℕ) → s ≡ Wait e → next ≡ pick (eqb (bell side w) e) Asleep Look
     unfolding move_of value_of
     naps-here e q =
         let value = value_of w.region p.own (next_spec p) in
-        let at : value ≡ bell side w = ap (value_of w.region p.own) (access-is P S v on power-ok slot-ok w d.real side payload lent Fine g ∙ ap (λ (u : Step). next_at u side p.counter) q) in
+        let at : value ≡ bell side w = ap (value_of w.region p.own) (access-is P S v on power-ok slot-ok w d.real side payload lent None g ∙ ap (λ (u : Step). next_at u side p.counter) q) in
         ap (λ (u : Step). step_after (move_at u p.own p.counter p.blocking p.length value 0) u) q ∙ nap-step p.own value e ∙ ap (λ (u : ℕ). pick (eqb u e) Asleep Look) at
 
     drowses : (in_wait next ≡ true) × (to_sleep (bell side w) p.own.spins next ≡ less (to_sleep (bell side w) p.own.spins s))
-    drowses = drowse _ d.room (d.real.sides side).bell-small (open-door _ (stop-barred side (le_at 4 w.region flags_at) ∙ d.clear)) d.blocking s next (leads-here P S v on power-ok slot-ok w d.real side payload lent Fine g) d.waits naps-here
+    drowses = drowse _ d.room (d.real.sides side).bell-small (open-door _ (stop-barred side (le_at 4 w.region flags_at) ∙ d.clear)) d.blocking s next (leads-here P S v on power-ok slot-ok w d.real side payload lent None g) d.waits naps-here
 
     bell-same : bell side after ≡ bell side w
     unfolding after_turn
@@ -90,9 +90,9 @@ module _ (P S v : ℕ) (on : Bool) (power-ok : power_ok P ≡ true) (slot-ok : s
     drowsy-after : Drowsy side (less n) after
     drowsy-after =
         record {
-          real = real-after P S v on power-ok slot-ok w d.real side payload lent Fine g;
-          room = none_after P S v on power-ok slot-ok w d.real side payload lent Fine g d.room;
-          clear = ap (stop_at side) (flags-same P S v on power-ok slot-ok w d.real side payload lent Fine g (wait-stores-none s d.waits)) ∙ d.clear;
+          real = real-after P S v on power-ok slot-ok w d.real side payload lent None g;
+          room = none_after P S v on power-ok slot-ok w d.real side payload lent None g d.room;
+          clear = ap (stop_at side) (flags-same P S v on power-ok slot-ok w d.real side payload lent None g (wait-stores-none s d.waits)) ∙ d.clear;
           blocking = ap (λ (q : Party). q.blocking) me ∙ d.blocking;
           waits = rw me drowses.0;
           left = rw (me, bell-same) (drowses.1 ∙ ap less d.left);
@@ -105,8 +105,8 @@ module _ (P S v : ℕ) (on : Bool) (power-ok : power_ok P ≡ true) (slot-ok : s
       (λ e. let u : true ≡ false = sym d.waits ∙ ap in_wait e in let z : ◌≡◌ {A = ℕ} 0 1 = cc in omega arith)
       (λ e. let u : 0 ≡ suc n = sym (ap (to_sleep (bell side w) (party_in w side).own.spins) e) ∙ d.left in omega arith)
 
-  turn : (side : Side) (n : ℕ) (w : World) → Drowsy side (suc n) w → (payload lent : List ℕ) → takes w side payload lent Fine ≡ true → Drowsy side n (turn_world w side payload lent Fine)
-  turn side n w d payload lent g = subst (Drowsy side n) (sym (turn-is-after P S v on power-ok slot-ok w d.real side payload lent Fine g)) (drowsy-after side w (suc n) d payload lent g)
+  turn : (side : Side) (n : ℕ) (w : World) → Drowsy side (suc n) w → (payload lent : List ℕ) → takes w side payload lent None ≡ true → Drowsy side n (turn_world w side payload lent None)
+  turn side n w d payload lent g = subst (Drowsy side n) (sym (turn-is-after P S v on power-ok slot-ok w d.real side payload lent None g)) (drowsy-after side w (suc n) d payload lent g)
 
   slept : (side : Side) (w : World) → Drowsy side 0 w → (party_in w side).step ≡ Asleep
   slept side w d = (near-sleep (bell side w) (party_in w side).own.spins (party_in w side).step).slept d.waits (omega (arith, d.left))

@@ -1,4 +1,5 @@
 -- T4: with a flag up, every call ends.
+use Rattle.std.specs.Prelude.{None, Some}
 use mathlib.Core.Path.{◌≡◌, refl, sym, ap, ◌∙◌, subst}
 use mathlib.Core.Bool.{Bool, true, false, ◌&&◌, ◌||◌}
 use mathlib.Core.List.{List, [], ◌∷◌, ◌++◌}
@@ -13,8 +14,7 @@ use Rattle.types.specs.declared.Side.{Side}
 use Rattle.types.specs.declared.Mark.TheVariants.{Shutdown as ShutMark}
 use Rattle.types.specs.declared.Bench.{Bench}
 use Rattle.types.specs.declared.Party.{Party}
-use Rattle.types.specs.declared.Fault.{Fault}
-use Rattle.types.specs.declared.Fault.TheVariants.{Fine, Error}
+use Rattle.types.specs.Faults.{Fault}
 use Rattle.types.specs.declared.Event.TheVariants.{Turn, Failing, Spurious, TimeOut, Push, Pop, Close, Shutdown}
 use Rattle.types.specs.declared.Step.{Step}
 use Rattle.types.specs.declared.Step.TheVariants.{Rest, Asleep}
@@ -196,8 +196,8 @@ module _ (P S v : ℕ) (on : Bool) where
         → Then side n (tick_by counted h w) (happens h w)
     unfolding happens played played_leaves settled
     ending-happens side (attaches mover spins) w t m real y n d i = absurd m
-    ending-happens side (plays (Turn mover) b o) w t m real y n d i = turned w real side mover b o Fine m y n d i
-    ending-happens side (plays (Failing mover e) b o) w t m real y n d i = turned w real side mover b o (Error e) m y n d i
+    ending-happens side (plays (Turn mover) b o) w t m real y n d i = turned w real side mover b o None m y n d i
+    ending-happens side (plays (Failing mover e) b o) w t m real y n d i = turned w real side mover b o (Some e) m y n d i
     ending-happens side (plays (Spurious mover) b o) w t m real y n d i = rw m (called w side (spurious_spec side (party_in w side)).party (spurious-changes side (party_in w side)) i n d)
     ending-happens side (plays (TimeOut mover) b o) w t m real y n d i = rw m (called w side (timeout_spec side (party_in w side)).party (timeout-changes side (party_in w side)) i n d)
     ending-happens side (plays (Push c g l) b o) w t m real y n d i =

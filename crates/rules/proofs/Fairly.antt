@@ -1,4 +1,5 @@
 -- Along a run that is fair to a side, it may rely on the other; and T3 follows.
+use Rattle.std.specs.Prelude.{None, Some}
 use mathlib.Core.Path.{◌≡◌, refl, sym, ap, ap₂, ◌∙◌, subst}
 use mathlib.Core.Bool.{Bool, true, false, ◌||◌}
 use mathlib.Core.List.{List, [], ◌∷◌}
@@ -14,8 +15,7 @@ use Rattle.types.specs.declared.Mark.TheVariants.{Shutdown as ShutMark}
 use Rattle.types.specs.declared.Own.{Own}
 use Rattle.types.specs.declared.Party.{Party}
 use Rattle.types.specs.declared.Bench.{Bench}
-use Rattle.types.specs.declared.Fault.{Fault}
-use Rattle.types.specs.declared.Fault.TheVariants.{Fine, Error}
+use Rattle.types.specs.Faults.{Fault}
 use Rattle.types.specs.declared.Event.TheVariants.{Turn, Failing, Spurious, TimeOut, Push, Pop, Close, Shutdown}
 use Rattle.types.specs.declared.Access.{Access}
 use Rattle.types.specs.declared.Step.{Step}
@@ -198,8 +198,8 @@ module _ (P S v : ℕ) (on : Bool) where
     pub ready-happens : (σ : Side) (h : Happening) (w : World) → Typed h → Fair σ h w → Real P S v on w → Ready σ w → Ready σ (happens h w)
     unfolding happens played played_leaves settled
     ready-happens σ (attaches side spins) w t f real y = attached-ready w real σ side spins y
-    ready-happens σ (plays (Turn side) i o) w t f real y = turned-ready w real σ side i o Fine f y
-    ready-happens σ (plays (Failing side e) i o) w t f real y = turned-ready w real σ side i o (Error e) f y
+    ready-happens σ (plays (Turn side) i o) w t f real y = turned-ready w real σ side i o None f y
+    ready-happens σ (plays (Failing side e) i o) w t f real y = turned-ready w real σ side i o (Some e) f y
     ready-happens σ (plays (Spurious side) i o) w t f real y = called-ready w real σ side (spurious_spec side (party_in w side)).party (spurious-changes side (party_in w side)) y
     ready-happens σ (plays (TimeOut side) i o) w t f real y = called-ready w real σ side (timeout_spec side (party_in w side)).party (timeout-changes side (party_in w side)) y
     ready-happens σ (plays (Push b g l) i o) w t f real y = called-ready w real σ Sender (push_spec (party_in w Sender) b g l).party (push-changes (party_in w Sender) b g l t) y

@@ -1,4 +1,5 @@
 -- The bits of a close and of a shutdown are set by calls that were begun.
+use Rattle.std.specs.Prelude.{None, Some}
 use mathlib.Core.Path.{◌≡◌, refl, sym, ap, ◌∙◌, subst}
 use mathlib.Core.Bool.{Bool, true, false, not, ◌&&◌, ◌||◌}
 use mathlib.Core.List.{List, [], ◌∷◌}
@@ -15,8 +16,7 @@ use Rattle.types.specs.declared.Mark.{Mark}
 use Rattle.types.specs.declared.Mark.TheVariants.{SenderAttached, RecorderAttached, SenderClosed, RecorderClosed, Shutdown as ShutMark}
 use Rattle.types.specs.declared.Party.{Party}
 use Rattle.types.specs.declared.Reply.{Reply}
-use Rattle.types.specs.declared.Fault.{Fault}
-use Rattle.types.specs.declared.Fault.TheVariants.{Fine, Error}
+use Rattle.types.specs.Faults.{Fault}
 use Rattle.types.specs.declared.Access.{Access}
 use Rattle.types.specs.declared.Event.TheVariants.{Turn, Failing, Spurious, TimeOut, Push, Pop, Close, Shutdown}
 use Rattle.types.specs.declared.Answer.TheVariants.{GoesOn}
@@ -265,8 +265,8 @@ module _ (P S v : ℕ) (on : Bool) (power-ok : power_ok P ≡ true) (slot-ok : s
   flagged-happens : (h : Happening) (w : World) → Real P S v on w → (b : Bool) → Flagged m b w → Flagged m (b || asks_for m h w) (happens h w)
   unfolding happens played played_leaves settled push_spec pop_spec close_spec shut_spec spurious_spec timeout_spec
   flagged-happens (attaches side n) w real b y = rw (or-none b) (flagged-attach side n w real b y)
-  flagged-happens (plays (Turn side) i o) w real b y = rw (or-none b) (flagged-turn w real b y side i o Fine)
-  flagged-happens (plays (Failing side e) i o) w real b y = rw (or-none b) (flagged-turn w real b y side i o (Error e))
+  flagged-happens (plays (Turn side) i o) w real b y = rw (or-none b) (flagged-turn w real b y side i o None)
+  flagged-happens (plays (Failing side e) i o) w real b y = rw (or-none b) (flagged-turn w real b y side i o (Some e))
   flagged-happens (plays (Spurious side) i o) w real b y =
       let p = party_in w side in
       called m b false w side _ (roused-step (λ q. will_set m side q.step ≡ true → (b || false) ≡ true) p (sound side p) (is_sleeping (stance_of p.step)) (reply (at Look p) GoesOn) (λ e. or_left b false (y.step side e)) (λ e. no e)) y

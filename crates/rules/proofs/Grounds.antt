@@ -1,4 +1,5 @@
 -- 20 is answered exactly where one of its grounds holds.
+use Rattle.std.specs.Prelude.{None, Some}
 use mathlib.Core.Path.{◌≡◌, refl, sym, ap, subst, ◌∙◌}
 use mathlib.Core.Bool.{Bool, true, false, not, ◌&&◌}
 use mathlib.Core.List.{List, [], ◌∷◌}
@@ -12,8 +13,7 @@ use Rattle.types.specs.declared.Side.{Side}
 use Rattle.types.specs.declared.Side.TheVariants.{Sender, Recorder}
 use Rattle.types.specs.declared.Own.{Own}
 use Rattle.types.specs.declared.Party.{Party}
-use Rattle.types.specs.declared.Fault.{Fault}
-use Rattle.types.specs.declared.Fault.TheVariants.{Fine, Error}
+use Rattle.types.specs.Faults.{Fault}
 use Rattle.types.specs.declared.Stance.{Stance}
 use Rattle.types.specs.declared.Stance.TheVariants.{Resting, Sleeping, Copying, Publishing, Closing, Moving}
 use Rattle.types.specs.declared.Step.{Step}
@@ -144,10 +144,10 @@ module _ (side : Side) (r : List ℕ) (p : Party) (i o : List ℕ) (f : Fault) w
   lent-bad Closing lent named e = absurd (let z : ◌≡◌ {A = ℕ} 0 1 = cc in omega arith)
   lent-bad Moving lent named e = absurd (let z : ◌≡◌ {A = ℕ} 0 1 = cc in omega arith)
 
-  fault-bad : (f : Fault) → fault_ok f ≡ false → f ≡ Error 0
-  fault-bad Fine e = absurd (let z : ◌≡◌ {A = ℕ} 0 1 = cc in omega arith)
-  fault-bad (Error zero) e = refl
-  fault-bad (Error (suc n)) e = absurd (let h = ltb-false 0 (suc n) e in omega arith)
+  fault-bad : (f : Fault) → fault_ok f ≡ false → f ≡ Some 0
+  fault-bad None e = absurd (let z : ◌≡◌ {A = ℕ} 0 1 = cc in omega arith)
+  fault-bad (Some zero) e = refl
+  fault-bad (Some (suc n)) e = absurd (let h = ltb-false 0 (suc n) e in omega arith)
 
   untaken-of : taken side r p i o f ≡ false → Untaken side r p i o f
   unfolding goes

@@ -1,4 +1,5 @@
 -- What each answer leaves behind, by the rows of the table.
+use Rattle.std.specs.Prelude.{None}
 use mathlib.Core.Path.{◌≡◌, refl, ap, ◌∙◌}
 use mathlib.Core.Bool.{Bool, true, false}
 use mathlib.Core.List.{List}
@@ -8,7 +9,7 @@ use Rattle.types.specs.declared.Side.{Side}
 use Rattle.types.specs.declared.Side.TheVariants.{Recorder}
 use Rattle.types.specs.declared.Party.{Party}
 use Rattle.types.specs.declared.Turned.{Turned}
-use Rattle.types.specs.declared.Fault.{Fault}
+use Rattle.types.specs.Faults.{Fault}
 use Rattle.types.specs.declared.Bell.TheVariants.{NotFull}
 use Rattle.types.specs.declared.Fit.{Fit}
 use Rattle.types.specs.declared.Fit.TheVariants.{Bad, Small}
@@ -18,11 +19,10 @@ use Rattle.types.specs.declared.Step.{Step}
 use Rattle.types.specs.declared.Step.TheVariants.{Rest, Look, Copy, Wake, Gate, GateAgain, Wait, Asleep, LastLook, CloseWake, ShutWakeNf}
 use Rattle.types.specs.declared.Move.{Move}
 use Rattle.types.specs.declared.Move.TheVariants.{Still, To, End}
-use Rattle.types.specs.declared.Woke.TheVariants.{Nobody}
 use Rattle.types.specs.declared.Answer.{Answer}
 use Rattle.types.specs.declared.Answer.TheVariants.{Done, InvalidMagic, UnsupportedVersion, InvalidHeaderSize, InvalidLayout, InvalidCapacity, InvalidSlotSize, CorruptIndices, CorruptSlot, Full, Empty, Closed, Shutdown, Timeout, WouldBlock, OutputTooSmall, AlreadyAttached, Syscall, PayloadTooLong, NotFullOff, BadCall, Nothing, Begun, GoesOn}
 use Rattle.types.specs.declared.Access.{Access}
-use Rattle.types.specs.declared.Access.TheVariants.{None, LoadCounter, LoadFlags, ReadSlot, WaitBell, WakeBell}
+use Rattle.types.specs.declared.Access.TheVariants.{None as NoAccess, LoadCounter, LoadFlags, ReadSlot, WaitBell, WakeBell}
 use Rattle.layout.specs.Limits.{payload_capacity}
 use Rattle.layout.specs.Slots.{head_word, head_of}
 use Rattle.rules.specs.Sides.{other, ring_bell, sleep_bell}
@@ -126,7 +126,7 @@ module _ (side : Side) (r : List ℕ) (p : Party) (i o : List ℕ) (f : Fault) (
   turn-still : (s : Stance) → stance_of p.step ≡ s → made p s Still ≡ p → move_of p value (error_of f) ≡ Still → (turn_spec side r p i o f).party ≡ p
   turn-still s e h m = party-is ∙ rw (e, m) h
 
-  nobody : (a : Access) → next_spec p ≡ a → woke_of a (error_of f) ≡ Nobody → (turn_spec side r p i o f).woke ≡ Nobody
+  nobody : (a : Access) → next_spec p ≡ a → woke_of a (error_of f) ≡ None → (turn_spec side r p i o f).woke ≡ None
   unfolding act_spec
   nobody a n h = ap (λ (t : Turned). t.woke) turn_is ∙ rw n h
 
@@ -165,7 +165,7 @@ module _ (side : Side) (r : List ℕ) (p : Party) (i o : List ℕ) (f : Fault) (
   ends-leaves (shut-failed {first} s a) = (looks-kept (WakeBell NotFull all) (next-is (ShutWakeNf false first) s) refl refl, turn-rests (shut-failed s a) refl)
   ends-leaves (shut-failed-last {first} s a z) = (looks-kept (WakeBell NotFull all) (next-is (ShutWakeNf false first) s) refl refl, turn-rests (shut-failed-last s a z) refl)
   ends-leaves (resting s) =
-      (looks-kept None (next-is Rest s) refl refl, (turn-still Resting (ap stance_of s) (still-rests p) (rw s), nobody None (next-is Rest s) refl))
+      (looks-kept NoAccess (next-is Rest s) refl refl, (turn-still Resting (ap stance_of s) (still-rests p) (rw s), nobody NoAccess (next-is Rest s) refl))
   ends-leaves (asleep s) =
-      (looks-kept None (next-is Asleep s) refl refl, (turn-still Sleeping (ap stance_of s) (still-sleeps p) (rw s), nobody None (next-is Asleep s) refl))
+      (looks-kept NoAccess (next-is Asleep s) refl refl, (turn-still Sleeping (ap stance_of s) (still-sleeps p) (rw s), nobody NoAccess (next-is Asleep s) refl))
   ends-leaves (goes_on m) = tt

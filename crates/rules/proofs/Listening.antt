@@ -13,7 +13,7 @@ use Rattle.words.proofs.Wrapped.{plus-differ}
 use Rattle.types.specs.declared.Side.{Side}
 use Rattle.types.specs.declared.Side.TheVariants.{Sender, Recorder}
 use Rattle.types.specs.declared.Party.{Party}
-use Rattle.types.specs.declared.Fault.{Fault}
+use Rattle.types.specs.Faults.{Fault}
 use Rattle.types.specs.declared.Step.{Step}
 use Rattle.types.specs.declared.Step.TheVariants.{Epoch, Wait, Asleep}
 use Rattle.types.specs.declared.Access.{Access}

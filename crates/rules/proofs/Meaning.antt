@@ -1,4 +1,5 @@
 -- What a call does of what it was asked.
+use Rattle.std.specs.Prelude.{None, Some}
 use mathlib.Core.Path.{◌≡◌, refl, sym, ap, ◌∙◌, subst}
 use mathlib.Core.Bool.{Bool, true, false, not}
 use mathlib.Core.List.{List}
@@ -11,8 +12,7 @@ use lib.ListN.{length}
 use Rattle.types.specs.declared.Side.{Side}
 use Rattle.types.specs.declared.Side.TheVariants.{Sender, Recorder}
 use Rattle.types.specs.declared.Own.{Own}
-use Rattle.types.specs.declared.Fault.{Fault}
-use Rattle.types.specs.declared.Fault.TheVariants.{Fine, Error}
+use Rattle.types.specs.Faults.{Fault}
 use Rattle.types.specs.declared.Stance.{Stance}
 use Rattle.types.specs.declared.Stance.TheVariants.{Resting, Sleeping, Copying, Publishing, Closing, Moving}
 use Rattle.types.specs.declared.Room.TheVariants.{Blocked}
@@ -73,10 +73,10 @@ lent-named Publishing lent n e = refl
 lent-named Closing lent n e = refl
 lent-named Moving lent n e = refl
 
-pub fault-fine : (f : Fault) → (f ≡ Error 0 → ⊥) → fault_ok f ≡ true
-fault-fine Fine n = refl
-fault-fine (Error zero) n = absurd (n refl)
-fault-fine (Error (suc e)) n = lt-ltb 0 (suc e) (omega arith)
+pub fault-fine : (f : Fault) → (f ≡ Some 0 → ⊥) → fault_ok f ≡ true
+fault-fine None n = refl
+fault-fine (Some zero) n = absurd (n refl)
+fault-fine (Some (suc e)) n = lt-ltb 0 (suc e) (omega arith)
 
 -- a begin that answers 254 seats its record
 begun-party : (p : Party) (g c o n : Bool) (q : Party) → (begins p g c o n q).answer ≡ Begun → (begins p g c o n q).party ≡ q

@@ -1,4 +1,5 @@
 -- What a party holds of its call, and what the call has published, in every world that a run reaches.
+use Rattle.std.specs.Prelude.{None, Some}
 use mathlib.Core.Path.{◌≡◌, refl, sym, ap, ◌∙◌, subst}
 use mathlib.Core.Bool.{Bool, true, false, not, ◌&&◌}
 use mathlib.Core.List.{List, [], ◌∷◌, ◌++◌}
@@ -16,15 +17,14 @@ use Rattle.types.specs.declared.Bell.TheVariants.{NotEmpty, NotFull}
 use Rattle.types.specs.declared.Own.{Own}
 use Rattle.types.specs.declared.Party.{Party}
 use Rattle.types.specs.declared.Reply.{Reply}
-use Rattle.types.specs.declared.Woke.{Woke}
+use Rattle.types.specs.Faults.{Woke}
 use Rattle.types.specs.declared.Stance.{Stance}
 use Rattle.types.specs.declared.Stance.TheVariants.{Resting, Sleeping, Copying, Publishing, Closing, Moving}
 use Rattle.types.specs.declared.Fit.{Fit}
 use Rattle.types.specs.declared.Fit.TheVariants.{Bad, Small, Fits}
 use Rattle.types.specs.declared.Move.{Move}
 use Rattle.types.specs.declared.Access.{Access}
-use Rattle.types.specs.declared.Fault.{Fault}
-use Rattle.types.specs.declared.Fault.TheVariants.{Fine, Error}
+use Rattle.types.specs.Faults.{Fault}
 use Rattle.types.specs.declared.Step.{Step}
 use Rattle.types.specs.declared.Step.TheVariants.{Look, Copy, Publish, Raise, Epoch, LastLook, CloseSet, ShutSet}
 use Rattle.types.specs.declared.Event.TheVariants.{Turn, Failing, Spurious, TimeOut, Push, Pop, Close, Shutdown}
@@ -415,8 +415,8 @@ module _ (P S v : ℕ) (on : Bool) (power-ok : power_ok P ≡ true) (slot-ok : s
   meant-happens : (σ : Side) (h : Happening) (w : World) → Real P S v on w → (c : Call) → Meant σ c w → Meant σ (call_after σ h w c) (happens h w)
   unfolding happens played played_leaves settled push_spec pop_spec close_spec shut_spec spurious_spec timeout_spec
   meant-happens σ (attaches side count) w real c y = meant-attach σ side count w real c y
-  meant-happens σ (plays (Turn side) i o) w real c y = meant-turn P S v on power-ok slot-ok σ side w real i o Fine c y
-  meant-happens σ (plays (Failing side e) i o) w real c y = meant-turn P S v on power-ok slot-ok σ side w real i o (Error e) c y
+  meant-happens σ (plays (Turn side) i o) w real c y = meant-turn P S v on power-ok slot-ok σ side w real i o None c y
+  meant-happens σ (plays (Failing side e) i o) w real c y = meant-turn P S v on power-ok slot-ok σ side w real i o (Some e) c y
   meant-happens Sender (plays (Spurious Sender) i o) w real c y =
       let p = w.bench.sender in
       let h = roused-keeps (Holds Sender w.trace c) p (sound Sender p) (is_sleeping (stance_of p.step)) (reply (at Look p) GoesOn) (y.keeps, y.under) (risen Sender w.trace c p Look refl (y.keeps, y.under)) in

@@ -1,4 +1,5 @@
 -- T10: 11 ends a pop, and 13 any call, over nothing alone.
+use Rattle.std.specs.Prelude.{None, Some}
 use mathlib.Core.Path.{◌≡◌, refl, sym, ap, ◌∙◌, subst}
 use mathlib.Core.Bool.{Bool, true, false}
 use mathlib.Core.List.{List}
@@ -8,8 +9,7 @@ use Rattle.types.specs.declared.Side.{Side}
 use Rattle.types.specs.declared.Side.TheVariants.{Sender, Recorder}
 use Rattle.types.specs.declared.Own.{Own}
 use Rattle.types.specs.declared.Party.{Party}
-use Rattle.types.specs.declared.Fault.{Fault}
-use Rattle.types.specs.declared.Fault.TheVariants.{Fine, Error}
+use Rattle.types.specs.Faults.{Fault}
 use Rattle.types.specs.declared.Room.TheVariants.{Blocked}
 use Rattle.types.specs.declared.Step.{Step}
 use Rattle.types.specs.declared.Step.TheVariants.{LastLook}
@@ -112,8 +112,8 @@ module _ (r : List ℕ) (P S : ℕ) (on : Bool) (v : ℕ) (fresh : Fresh r P S o
 
   pub timeout-over-none : (side : Side) → TimeoutOverNone r P S on v side
   unfolding played turned settled
-  timeout-over-none side hs t (Turn mover) i o m e = turn-none side mover m hs t i o Fine e
-  timeout-over-none side hs t (Failing mover n) i o m e = turn-none side mover m hs t i o (Error n) e
+  timeout-over-none side hs t (Turn mover) i o m e = turn-none side mover m hs t i o None e
+  timeout-over-none side hs t (Failing mover n) i o m e = turn-none side mover m hs t i o (Some n) e
   timeout-over-none side hs t (Spurious mover) i o m e = absurd (untimed-spurious mover (party_in (reached r P S on v hs) mover) e)
   timeout-over-none side hs t (TimeOut mover) i o m e = absurd (untimed-timeout mover (party_in (reached r P S on v hs) mover) e)
   timeout-over-none side hs t (Push b g l) i o m e = absurd (untimed-push (party_in (reached r P S on v hs) Sender) b g l e)

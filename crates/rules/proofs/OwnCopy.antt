@@ -12,7 +12,7 @@ use Rattle.types.specs.declared.Side.{Side}
 use Rattle.types.specs.declared.Side.TheVariants.{Sender, Recorder}
 use Rattle.types.specs.declared.Own.{Own}
 use Rattle.types.specs.declared.Party.{Party}
-use Rattle.types.specs.declared.Fault.{Fault}
+use Rattle.types.specs.Faults.{Fault}
 use Rattle.layout.specs.Limits.{power_ok, slot_ok}
 use Rattle.layout.specs.Create.{created}
 use Rattle.layout.specs.Attach.{attached, attach_answer, attach_reply}

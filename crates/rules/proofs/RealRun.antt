@@ -1,4 +1,5 @@
 -- The invariant holds at the start and in every world that a run reaches; and T1 follows.
+use Rattle.std.specs.Prelude.{None, Some}
 use mathlib.Core.Path.{◌≡◌, refl, sym, ap, ◌∙◌}
 use mathlib.Core.Bool.{Bool, true, false}
 use mathlib.Core.List.{List, [], ◌∷◌, ◌++◌}
@@ -12,8 +13,7 @@ use Rattle.words.proofs.Wrapped.{plus-zero}
 use Rattle.types.specs.declared.Side.{Side}
 use Rattle.types.specs.declared.Side.TheVariants.{Sender, Recorder}
 use Rattle.types.specs.declared.Party.{Party}
-use Rattle.types.specs.declared.Fault.{Fault}
-use Rattle.types.specs.declared.Fault.TheVariants.{Fine, Error}
+use Rattle.types.specs.Faults.{Fault}
 use Rattle.types.specs.declared.Event.TheVariants.{Turn, Failing, Spurious, TimeOut, Push, Pop, Close, Shutdown}
 use Rattle.layout.specs.Limits.{power_ok, slot_ok, spins_ok, capacity, ring_bytes, total_bytes}
 use Rattle.layout.specs.Flags.{worth, not_full_on, reserved_from, bit_on, attach_mark, close_mark}
@@ -45,8 +45,8 @@ module _ (P S v : ℕ) (on : Bool) (power-ok : power_ok P ≡ true) (slot-ok : s
       → F (happens h w)
   unfolding happens played played_leaves settled
   happens-by F (attaches side spins) w y real a t c = a side spins
-  happens-by F (plays (Turn side) i o) w y real a t c = t side i o Fine
-  happens-by F (plays (Failing side e) i o) w y real a t c = t side i o (Error e)
+  happens-by F (plays (Turn side) i o) w y real a t c = t side i o None
+  happens-by F (plays (Failing side e) i o) w y real a t c = t side i o (Some e)
   happens-by F (plays (Spurious side) i o) w y real a t c = c side (spurious_spec side (party_in w side)).party (spurious-changes side (party_in w side))
   happens-by F (plays (TimeOut side) i o) w y real a t c = c side (timeout_spec side (party_in w side)).party (timeout-changes side (party_in w side))
   happens-by F (plays (Push b g l) i o) w y real a t c = c Sender (push_spec (party_in w Sender) b g l).party (push-changes (party_in w Sender) b g l y)

@@ -10,7 +10,7 @@ use Rattle.types.specs.Answers.{number}
 use Rattle.types.specs.declared.Side.{Side}
 use Rattle.types.specs.declared.Side.TheVariants.{Sender, Recorder}
 use Rattle.types.specs.declared.Party.{Party}
-use Rattle.types.specs.declared.Fault.{Fault}
+use Rattle.types.specs.Faults.{Fault}
 use Rattle.types.specs.declared.Stance.{Stance}
 use Rattle.types.specs.declared.Stance.TheVariants.{Resting, Sleeping, Copying, Publishing, Closing, Moving}
 use Rattle.layout.specs.Limits.{power_ok, slot_ok}

@@ -15,7 +15,7 @@ use Rattle.types.specs.declared.Side.TheVariants.{Sender, Recorder}
 use Rattle.types.specs.declared.Bell.TheVariants.{NotEmpty, NotFull}
 use Rattle.types.specs.declared.Own.{Own}
 use Rattle.types.specs.declared.Party.{Party}
-use Rattle.types.specs.declared.Woke.{Woke}
+use Rattle.types.specs.Faults.{Woke}
 use Rattle.types.specs.declared.Mark.TheVariants.{Shutdown as ShutMark}
 use Rattle.types.specs.declared.Door.TheVariants.{Shut, Left, Open}
 use Rattle.types.specs.declared.Step.{Step}

@@ -11,7 +11,7 @@ use Rattle.words.specs.Le.{le_at}
 use Rattle.types.specs.Pick.{pick}
 use Rattle.types.specs.declared.Side.{Side}
 use Rattle.types.specs.declared.Party.{Party}
-use Rattle.types.specs.declared.Fault.{Fault}
+use Rattle.types.specs.Faults.{Fault}
 use Rattle.types.specs.declared.Room.TheVariants.{Corrupt, Blocked, Free}
 use Rattle.types.specs.declared.Move.{Move}
 use Rattle.types.specs.declared.Move.TheVariants.{Still, To, End}

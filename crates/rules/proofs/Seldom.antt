@@ -1,4 +1,5 @@
 -- Along every run a bell is seldom raised between a look at it and a wait; so of the premises only the wakes' is left.
+use Rattle.std.specs.Prelude.{None, Some}
 use mathlib.Core.Path.{◌≡◌, refl, sym, ap, ◌∙◌, subst}
 use mathlib.Core.Bool.{Bool, true, false, ◌&&◌, not}
 use mathlib.Core.List.{List, [], ◌∷◌}
@@ -12,8 +13,7 @@ use Rattle.types.specs.declared.Side.{Side}
 use Rattle.types.specs.declared.Side.TheVariants.{Sender, Recorder}
 use Rattle.types.specs.declared.Party.{Party}
 use Rattle.types.specs.declared.Bench.{Bench}
-use Rattle.types.specs.declared.Fault.{Fault}
-use Rattle.types.specs.declared.Fault.TheVariants.{Fine, Error}
+use Rattle.types.specs.Faults.{Fault}
 use Rattle.types.specs.declared.Event.TheVariants.{Turn, Failing, Spurious, TimeOut, Push, Pop, Close, Shutdown}
 use Rattle.types.specs.declared.Step.{Step}
 use Rattle.types.specs.declared.Step.TheVariants.{Rest, Look, Wait, Asleep, LastLook, CloseSet, ShutSet}
@@ -189,8 +189,8 @@ module _ (P S v : ℕ) (on : Bool) where
     rung-happens : (σ : Side) (h : Happening) (w : World) → Typed h → Real P S v on w → Rung more σ w → Rung (more + parting (other σ) h) σ (happens h w)
     unfolding happens played played_leaves settled
     rung-happens σ (attaches side spins) w t real y = no_more more σ (attach_world P S v on power-ok slot-ok w real side spins) (joins w real σ side spins y)
-    rung-happens σ (plays (Turn side) i o) w t real y = no_more more σ (turn_world w side i o Fine) (turned w real σ side i o Fine y)
-    rung-happens σ (plays (Failing side e) i o) w t real y = no_more more σ (turn_world w side i o (Error e)) (turned w real σ side i o (Error e) y)
+    rung-happens σ (plays (Turn side) i o) w t real y = no_more more σ (turn_world w side i o None) (turned w real σ side i o None y)
+    rung-happens σ (plays (Failing side e) i o) w t real y = no_more more σ (turn_world w side i o (Some e)) (turned w real σ side i o (Some e) y)
     rung-happens σ (plays (Spurious side) i o) w t real y = called-idly w σ side (spurious_spec side (party_in w side)).party (spurious-changes side (party_in w side)) (spurious-adds side (party_in w side)) y
     rung-happens σ (plays (TimeOut side) i o) w t real y = called-idly w σ side (timeout_spec side (party_in w side)).party (timeout-changes side (party_in w side)) (timeout-adds side (party_in w side)) y
     rung-happens σ (plays (Push b g l) i o) w t real y = called-idly w σ Sender (push_spec (party_in w Sender) b g l).party (push-changes (party_in w Sender) b g l t) (push-adds (party_in w Sender) b g l) y
@@ -219,8 +219,8 @@ module _ (P S v : ℕ) (on : Bool) where
   fair-one : (σ : Side) (h : Happening) (w : World) → ((e : ℕ) → (party_in w σ).step ≡ Wait e → rung_of σ w.trace < 2 ^ 32)
       → FairBy (λ s u. Unit) σ h w → FairBy Timely σ h w
   fair-one σ (attaches side spins) w f l = tt
-  fair-one σ (plays (Turn side) i o) w f l = λ g. fair-turn σ side Fine w f (l g)
-  fair-one σ (plays (Failing side e) i o) w f l = λ g. fair-turn σ side (Error e) w f (l g)
+  fair-one σ (plays (Turn side) i o) w f l = λ g. fair-turn σ side None w f (l g)
+  fair-one σ (plays (Failing side e) i o) w f l = λ g. fair-turn σ side (Some e) w f (l g)
   fair-one σ (plays (Spurious side) i o) w f l = tt
   fair-one σ (plays (TimeOut side) i o) w f l = tt
   fair-one σ (plays (Push b g n) i o) w f l = tt

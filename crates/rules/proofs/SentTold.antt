@@ -1,4 +1,5 @@
 -- What was sent is what the pushes' answers told.
+use Rattle.std.specs.Prelude.{None, Some}
 use mathlib.Core.Path.{◌≡◌, refl, sym, ap, ◌∙◌, subst}
 use mathlib.Core.Bool.{Bool, true, false, not, ◌&&◌}
 use mathlib.Core.List.{List, [], ◌∷◌, ◌++◌, append-nil, append_assoc}
@@ -19,8 +20,7 @@ use Rattle.types.specs.declared.Fit.{Fit}
 use Rattle.types.specs.declared.Fit.TheVariants.{Bad, Small, Fits}
 use Rattle.types.specs.declared.Nap.{Nap}
 use Rattle.types.specs.declared.Nap.TheVariants.{Sleeps, Returns, TimedOut, Fails}
-use Rattle.types.specs.declared.Fault.{Fault}
-use Rattle.types.specs.declared.Fault.TheVariants.{Fine, Error}
+use Rattle.types.specs.Faults.{Fault}
 use Rattle.types.specs.declared.Move.{Move}
 use Rattle.types.specs.declared.Move.TheVariants.{To, End}
 use Rattle.types.specs.declared.Answer.{Answer}
@@ -418,10 +418,10 @@ module _ (r : List ℕ) (P S : ℕ) (on : Bool) (v : ℕ) (fresh : Fresh r P S o
         by : (b : Bool) → eqb (number (attach_answer w.region Recorder n)) 0 ≡ b → Lined (happens (attaches Recorder n) w) c ns
         by false e = rw e y
         by true e = rw e y
-    line-happens (plays (Turn Sender) i o) = turn-line i o Fine
-    line-happens (plays (Turn Recorder) i o) = theirs-line i o Fine
-    line-happens (plays (Failing Sender e) i o) = turn-line i o (Error e)
-    line-happens (plays (Failing Recorder e) i o) = theirs-line i o (Error e)
+    line-happens (plays (Turn Sender) i o) = turn-line i o None
+    line-happens (plays (Turn Recorder) i o) = theirs-line i o None
+    line-happens (plays (Failing Sender e) i o) = turn-line i o (Some e)
+    line-happens (plays (Failing Recorder e) i o) = theirs-line i o (Some e)
     line-happens (plays (Spurious Sender) i o) = roused-keeps (Here c) p (sound Sender p) (is_sleeping (stance_of p.step)) (reply (at Look p) GoesOn) y (risen Look refl)
     line-happens (plays (Spurious Recorder) i o) = y
     line-happens (plays (TimeOut Sender) i o) = roused-keeps (Here c) p (sound Sender p) (is_sleeping (stance_of p.step)) (reply (at (LastLook true) p) GoesOn) y (risen (LastLook true) refl)

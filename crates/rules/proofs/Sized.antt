@@ -1,4 +1,5 @@
 -- A sender's record always names a length that its slot holds: so no turn of an attached party is refused for its record.
+use Rattle.std.specs.Prelude.{None, Some}
 use mathlib.Core.Path.{◌≡◌, refl, sym, ap, ◌∙◌, subst}
 use mathlib.Core.Bool.{Bool, true, false, not, ◌&&◌}
 use mathlib.Core.List.{List, [], ◌∷◌}
@@ -15,11 +16,10 @@ use Rattle.types.specs.declared.Own.{Own}
 use Rattle.types.specs.declared.Party.{Party}
 use Rattle.types.specs.declared.Bench.{Bench}
 use Rattle.types.specs.declared.Reply.{Reply}
-use Rattle.types.specs.declared.Woke.{Woke}
+use Rattle.types.specs.Faults.{Woke}
 use Rattle.types.specs.declared.Stance.{Stance}
 use Rattle.types.specs.declared.Stance.TheVariants.{Resting, Sleeping, Copying, Publishing, Closing, Moving}
-use Rattle.types.specs.declared.Fault.{Fault}
-use Rattle.types.specs.declared.Fault.TheVariants.{Fine, Error}
+use Rattle.types.specs.Faults.{Fault}
 use Rattle.types.specs.declared.Event.TheVariants.{Turn, Failing, Spurious, TimeOut, Push, Pop, Close, Shutdown}
 use Rattle.types.specs.declared.Answer.TheVariants.{GoesOn}
 use Rattle.types.specs.declared.Step.TheVariants.{Look, LastLook, CloseSet, ShutSet}
@@ -107,8 +107,8 @@ sized-attach w side spins h = by (eqb (number (attach_answer w.region side spins
 pub sized-happens : (h : Happening) (w : World) → Sized w → Sized (happens h w)
 unfolding happens played played_leaves settled push_spec close_spec shut_spec spurious_spec timeout_spec
 sized-happens (attaches side spins) w h = sized-attach w side spins h
-sized-happens (plays (Turn side) i o) w h = sized-turn w side i o Fine h
-sized-happens (plays (Failing side e) i o) w h = sized-turn w side i o (Error e) h
+sized-happens (plays (Turn side) i o) w h = sized-turn w side i o None h
+sized-happens (plays (Failing side e) i o) w h = sized-turn w side i o (Some e) h
 sized-happens (plays (Spurious Sender) i o) w h = let p = w.bench.sender in roused-fits p (sound Sender p) (is_sleeping (stance_of p.step)) (reply (at Look p) GoesOn) h h
 sized-happens (plays (Spurious Recorder) i o) w h = h
 sized-happens (plays (TimeOut Sender) i o) w h = let p = w.bench.sender in roused-fits p (sound Sender p) (is_sleeping (stance_of p.step)) (reply (at (LastLook true) p) GoesOn) h h
@@ -159,7 +159,7 @@ module _ (P S v : ℕ) (on : Bool) (power-ok : power_ok P ≡ true) (slot-ok : s
       rw ((real.sides side).seat.few, own-here, same-side side, power-ok, slot-ok, f)
 
   -- and its turn is taken
-  pub takes-here : takes w side (blank_of (party_in w side).length) (blank_of (party_in w side).length) Fine ≡ true
+  pub takes-here : takes w side (blank_of (party_in w side).length) (blank_of (party_in w side).length) None ≡ true
   unfolding goes
   takes-here =
       let l : eqb (length w.region) (total_bytes (party_in w side).own.power (party_in w side).own.slot) ≡ true =

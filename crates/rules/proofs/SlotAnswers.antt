@@ -13,7 +13,7 @@ use Rattle.types.specs.declared.Side.TheVariants.{Recorder}
 use Rattle.types.specs.declared.Party.{Party}
 use Rattle.types.specs.declared.Turned.{Turned}
 use Rattle.types.specs.declared.SlotHead.{SlotHead}
-use Rattle.types.specs.declared.Fault.{Fault}
+use Rattle.types.specs.Faults.{Fault}
 use Rattle.types.specs.declared.Fit.{Fit}
 use Rattle.types.specs.declared.Fit.TheVariants.{Bad, Small, Fits}
 use Rattle.types.specs.declared.Step.TheVariants.{Copy}

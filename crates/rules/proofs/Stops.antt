@@ -1,4 +1,5 @@
 -- T4, and no fewer: the turns that a stopped call takes from a spin, counted.
+use Rattle.std.specs.Prelude.{None}
 use mathlib.Core.Path.{◌≡◌, refl, sym, ap, ◌∙◌, subst}
 use mathlib.Core.Bool.{Bool, true, false, ◌||◌}
 use mathlib.Core.List.{List}
@@ -9,7 +10,6 @@ use Rattle.types.specs.Pick.{pick}
 use Rattle.types.specs.declared.Side.{Side}
 use Rattle.types.specs.declared.Side.TheVariants.{Sender, Recorder}
 use Rattle.types.specs.declared.Mark.TheVariants.{Shutdown as ShutMark}
-use Rattle.types.specs.declared.Fault.TheVariants.{Fine}
 use Rattle.types.specs.declared.Door.{Door}
 use Rattle.types.specs.declared.Door.TheVariants.{Shut, Left, Open}
 use Rattle.types.specs.declared.Step.{Step}
@@ -72,31 +72,31 @@ module _ (P S v : ℕ) (on : Bool) (power-ok : power_ok P ≡ true) (slot-ok : s
         (λ e. let u : 0 ≡ suc n = sym (ap (λ (x : Step). to_rest (last_at side door) x 0) e) ∙ d.left in omega arith)
         (λ e. let u : true ≡ false = sym d.at ∙ ap stopping e in let z : ◌≡◌ {A = ℕ} 0 1 = cc in omega arith)
 
-    module _ (n : ℕ) (w : World) (d : Stopping side door (suc n) w) (payload lent : List ℕ) (g : takes w side payload lent Fine ≡ true) where
+    module _ (n : ℕ) (w : World) (d : Stopping side door (suc n) w) (payload lent : List ℕ) (g : takes w side payload lent None ≡ true) where
       abbrev next : Step
-      next = next-step P S v on power-ok slot-ok w d.real side payload lent Fine g
+      next = next-step P S v on power-ok slot-ok w d.real side payload lent None g
 
       abbrev after : World
-      after = after_turn P S v on power-ok slot-ok w d.real side payload lent Fine g
+      after = after_turn P S v on power-ok slot-ok w d.real side payload lent None g
 
       nearer-here : (stopping next ≡ true) × (to_rest (last_at side door) next 0 ≡ less (to_rest (last_at side door) (party_in w side).step 0))
       nearer-here =
           subst (λ (z : Door). (stopping next ≡ true) × (to_rest (last_at side z) next 0 ≡ less (to_rest (last_at side z) (party_in w side).step 0))) d.seen
-          (nears _ d.room (ap barred d.seen ∙ up) (party_in w side).step next (leads-here P S v on power-ok slot-ok w d.real side payload lent Fine g) d.at)
+          (nears _ d.room (ap barred d.seen ∙ up) (party_in w side).step next (leads-here P S v on power-ok slot-ok w d.real side payload lent None g) d.at)
 
       stopping-after : Stopping side door n after
       stopping-after =
-          let me = mover-is P S v on power-ok slot-ok w d.real side payload lent Fine g in
+          let me = mover-is P S v on power-ok slot-ok w d.real side payload lent None g in
           record {
-            real = real-after P S v on power-ok slot-ok w d.real side payload lent Fine g;
-            room = none_after P S v on power-ok slot-ok w d.real side payload lent Fine g d.room;
-            seen = ap (door_of side) (flags-same P S v on power-ok slot-ok w d.real side payload lent Fine g (sets-none stopping refl (λ c. refl) (party_in w side).step d.at)) ∙ d.seen;
+            real = real-after P S v on power-ok slot-ok w d.real side payload lent None g;
+            room = none_after P S v on power-ok slot-ok w d.real side payload lent None g d.room;
+            seen = ap (door_of side) (flags-same P S v on power-ok slot-ok w d.real side payload lent None g (sets-none stopping refl (λ c. refl) (party_in w side).step d.at)) ∙ d.seen;
             at = rw me nearer-here.0;
             left = rw me (nearer-here.1 ∙ ap less d.left);
           }
 
-      turn : Stopping side door n (turn_world w side payload lent Fine)
-      turn = subst (Stopping side door n) (sym (turn-is-after P S v on power-ok slot-ok w d.real side payload lent Fine g)) stopping-after
+      turn : Stopping side door n (turn_world w side payload lent None)
+      turn = subst (Stopping side door n) (sym (turn-is-after P S v on power-ok slot-ok w d.real side payload lent None g)) stopping-after
 
 module _ (r : List ℕ) (P S : ℕ) (on : Bool) (v : ℕ) (fresh : Fresh r P S on v) where
   pub stops-after : (side : Side) → StopsAfter r P S on v side

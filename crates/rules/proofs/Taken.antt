@@ -1,4 +1,5 @@
 -- A turn of a side over a world: what a refused one leaves, and what a taken one knows and makes.
+use Rattle.std.specs.Prelude.{None}
 use mathlib.Core.Path.{◌≡◌, refl, sym, ap, ◌∙◌}
 use mathlib.Core.Bool.{true, false}
 use mathlib.Core.List.{List}
@@ -9,10 +10,9 @@ use Rattle.words.proofs.Runs.{and_left, and_right}
 use Rattle.types.specs.declared.Side.{Side}
 use Rattle.types.specs.declared.Side.TheVariants.{Sender, Recorder}
 use Rattle.types.specs.declared.Party.{Party}
-use Rattle.types.specs.declared.Fault.{Fault}
+use Rattle.types.specs.Faults.{Fault}
 use Rattle.types.specs.declared.Turned.{Turned}
 use Rattle.types.specs.declared.Bench.{Bench}
-use Rattle.types.specs.declared.Woke.TheVariants.{Nobody}
 use Rattle.layout.specs.Limits.{power_ok, slot_ok, spins_ok, total_bytes}
 use Rattle.rules.specs.Sides.{other, same_side}
 use Rattle.rules.specs.Take.{stance_of, step_after, move_of}
@@ -34,7 +34,7 @@ turn_world w side payload lent fault =
       trace = turn_traced w side payload lent fault;
     }
 
-pub reseated : (side : Side) (b : Bench) → seat (seat b side (party_of b side)) (other side) (wakened (other side) (party_of b (other side)) Nobody) ≡ b
+pub reseated : (side : Side) (b : Bench) → seat (seat b side (party_of b side)) (other side) (wakened (other side) (party_of b (other side)) None) ≡ b
 unfolding wakened
 reseated Sender b = refl
 reseated Recorder b = refl

@@ -1,4 +1,5 @@
 -- 13 comes of a time-out that came to the call; and the look after the other's close is a recorder's.
+use Rattle.std.specs.Prelude.{None, Some}
 use mathlib.Core.Path.{◌≡◌, refl, sym, subst}
 use mathlib.Core.Bool.{Bool, true, false, not, ◌&&◌, ◌||◌}
 use mathlib.Core.List.{List, [], ◌∷◌}
@@ -14,8 +15,7 @@ use Rattle.types.specs.declared.Reply.{Reply}
 use Rattle.types.specs.declared.Door.{Door}
 use Rattle.types.specs.declared.Nap.{Nap}
 use Rattle.types.specs.declared.Nap.TheVariants.{Sleeps, Returns, TimedOut, Fails}
-use Rattle.types.specs.declared.Fault.{Fault}
-use Rattle.types.specs.declared.Fault.TheVariants.{Fine, Error}
+use Rattle.types.specs.Faults.{Fault}
 use Rattle.types.specs.declared.Event.TheVariants.{Turn, Failing, Spurious, TimeOut, Push, Pop, Close, Shutdown}
 use Rattle.types.specs.declared.Answer.TheVariants.{GoesOn, Timeout}
 use Rattle.types.specs.declared.Step.{Step}
@@ -250,10 +250,10 @@ module _ (P S v : ℕ) (on : Bool) (power-ok : power_ok P ≡ true) (slot-ok : s
   glance-happens : (σ : Side) (h : Happening) (w : World) → Real P S v on w → (b : Bool) → In σ b w → In σ (timed_after σ h w b) (happens h w)
   unfolding happens played played_leaves settled push_spec pop_spec close_spec shut_spec spurious_spec timeout_spec
   glance-happens σ (attaches side n) w real b y = glance-attach σ side n w b y
-  glance-happens σ (plays (Turn side) i o) w real b y = glance-turn σ side w real i o Fine b b (λ e. e) (λ s g e q f. absurd (let z : ◌≡◌ {A = ℕ} 0 1 = cc in omega arith)) y
+  glance-happens σ (plays (Turn side) i o) w real b y = glance-turn σ side w real i o None b b (λ e. e) (λ s g e q f. absurd (let z : ◌≡◌ {A = ℕ} 0 1 = cc in omega arith)) y
   glance-happens σ (plays (Failing side n) i o) w real b y =
-      let x = same_side σ side && (takes w side i o (Error n) && (at_wait (phase (party_in w side).step) && eqb n 110)) in
-      glance-turn σ side w real i o (Error n) b (x || b) (or-more x b) (λ s g e q f. rw (s, same_true side, g, q, f)) y
+      let x = same_side σ side && (takes w side i o (Some n) && (at_wait (phase (party_in w side).step) && eqb n 110)) in
+      glance-turn σ side w real i o (Some n) b (x || b) (or-more x b) (λ s g e q f. rw (s, same_true side, g, q, f)) y
   glance-happens Sender (plays (Spurious Sender) i o) w real b y =
       let p = w.bench.sender in rouses-glance (Glance Sender b) p (sound Sender p) (is_sleeping (stance_of p.step)) (reply (at Look p) GoesOn) y (λ e. tt)
   glance-happens Recorder (plays (Spurious Recorder) i o) w real b y =

@@ -1,4 +1,5 @@
 -- A time-out is answered 13 with no room, and loses nothing with room.
+use Rattle.std.specs.Prelude.{Some}
 use mathlib.Core.Path.{◌≡◌, refl, sym, ap, ◌∙◌, subst}
 use mathlib.Core.Bool.{Bool, true, false}
 use mathlib.Core.List.{List, [], ◌∷◌, ◌++◌}
@@ -13,8 +14,7 @@ use Rattle.types.specs.declared.Own.{Own}
 use Rattle.types.specs.declared.Party.{Party}
 use Rattle.types.specs.declared.Bench.{Bench}
 use Rattle.types.specs.declared.Reply.{Reply}
-use Rattle.types.specs.declared.Fault.{Fault}
-use Rattle.types.specs.declared.Fault.TheVariants.{Error}
+use Rattle.types.specs.Faults.{Fault}
 use Rattle.types.specs.declared.Fit.TheVariants.{Fits}
 use Rattle.types.specs.declared.Room.TheVariants.{Free}
 use Rattle.types.specs.declared.Move.{Move}
@@ -217,9 +217,9 @@ module _ (r : List ℕ) (P S : ℕ) (on : Bool) (v : ℕ) (fresh : Fresh r P S o
       let real = real-reached r P S on v fresh hs t in
       record {
         typed = tt;
-        step = step-at P S v on power-ok slot_ok_lem side 0 w real payload lent (Error 110) g (Wait epoch) e ∙ waited (party_in w side).own (value_of w.region (party_in w side).own (next_spec (party_in w side))) epoch;
-        length = length_at P S v on power-ok slot_ok_lem side 0 w real payload lent (Error 110) g;
-        trace = trace-at P S v on power-ok slot_ok_lem side 0 w real payload lent (Error 110) g (Wait epoch) e;
+        step = step-at P S v on power-ok slot_ok_lem side 0 w real payload lent (Some 110) g (Wait epoch) e ∙ waited (party_in w side).own (value_of w.region (party_in w side).own (next_spec (party_in w side))) epoch;
+        length = length_at P S v on power-ok slot_ok_lem side 0 w real payload lent (Some 110) g;
+        trace = trace-at P S v on power-ok slot_ok_lem side 0 w real payload lent (Some 110) g (Wait epoch) e;
       }
     where
       waited : (own : Own) (val epoch : ℕ) → step_after (wait_move own val 110 epoch) (Wait epoch) ≡ LastLook true

@@ -1,4 +1,5 @@
 -- T10: and it is told, at the third turn of a blocking pop that finds nothing.
+use Rattle.std.specs.Prelude.{None}
 use mathlib.Core.Path.{◌≡◌, refl, sym, ap, ◌∙◌, subst}
 use mathlib.Core.Bool.{Bool, true, false}
 use mathlib.Core.List.{List}
@@ -8,7 +9,6 @@ use Rattle.words.specs.Le.{le_at}
 use Rattle.types.specs.declared.Side.TheVariants.{Recorder}
 use Rattle.types.specs.declared.Own.{Own}
 use Rattle.types.specs.declared.Party.{Party}
-use Rattle.types.specs.declared.Fault.TheVariants.{Fine}
 use Rattle.types.specs.declared.Room.TheVariants.{Blocked}
 use Rattle.types.specs.declared.Door.TheVariants.{Left}
 use Rattle.types.specs.declared.Step.{Step}
@@ -65,7 +65,7 @@ module _ (P S v : ℕ) (on : Bool) (power-ok : power_ok P ≡ true) (slot-ok : s
     at : (party_in w Recorder).step ≡ stage n
     few : n ≤ 2
 
-  module _ (w : World) (n : ℕ) (d : Stage n w) (payload lent : List ℕ) (g : takes w Recorder payload lent Fine ≡ true) where
+  module _ (w : World) (n : ℕ) (d : Stage n w) (payload lent : List ℕ) (g : takes w Recorder payload lent None ≡ true) where
     abbrev p : Party
     p = party_in w Recorder
 
@@ -76,16 +76,16 @@ module _ (P S v : ℕ) (on : Bool) (power-ok : power_ok P ≡ true) (slot-ok : s
     value = value_of w.region p.own (next_spec p)
 
     abbrev next : Step
-    next = next-step P S v on power-ok slot-ok w d.real Recorder payload lent Fine g
+    next = next-step P S v on power-ok slot-ok w d.real Recorder payload lent None g
 
     abbrev after : World
-    after = after_turn P S v on power-ok slot-ok w d.real Recorder payload lent Fine g
+    after = after_turn P S v on power-ok slot-ok w d.real Recorder payload lent None g
 
     told_at : (u : Step) → s ≡ u
         → Tells p.own (sight_at P S v on Recorder p.own w.region w.trace p.blocking) p.counter value u
     told_at u e =
         subst (λ (x : Step). Tells p.own (sight_at P S v on Recorder p.own w.region w.trace p.blocking) p.counter value x) e
-        (tells-here P S v on power-ok slot-ok w d.real Recorder payload lent Fine g)
+        (tells-here P S v on power-ok slot-ok w d.real Recorder payload lent None g)
 
     step-at : (u : Step) → s ≡ u → next ≡ step_after (move_at u p.own p.counter p.blocking p.length value 0) u
     unfolding move_of
@@ -95,7 +95,7 @@ module _ (P S v : ℕ) (on : Bool) (power-ok : power_ok P ≡ true) (slot-ok : s
     unfolding look_move gate_move
     leads-on zero e h =
         let seen : door_of p.own.side value ≡ Left = told_at Gate e ∙ d.left in
-        step-at Gate e ∙ rw seen (ap (λ (o : Own). step_after (left_move o.side) Gate) (own_is P S v on power-ok slot-ok w d.real Recorder payload lent Fine g))
+        step-at Gate e ∙ rw seen (ap (λ (o : Own). step_after (left_move o.side) Gate) (own_is P S v on power-ok slot-ok w d.real Recorder payload lent None g))
     leads-on (suc zero) e h =
         let seen : room_here p.own p.counter value ≡ Blocked = told_at Look e ∙ ap as_room d.none in
         step-at Look e ∙ rw (seen, d.blocking) refl
@@ -104,21 +104,21 @@ module _ (P S v : ℕ) (on : Bool) (power-ok : power_ok P ≡ true) (slot-ok : s
   moving : (n : ℕ) (w : World) → Stage n w → moves (stance_of (party_in w Recorder).step) ≡ true
   moving n w d = ap (λ (x : Step). moves (stance_of x)) d.at ∙ stage-moves n
 
-  turn : (n : ℕ) (w : World) → Stage (suc n) w → (payload lent : List ℕ) → takes w Recorder payload lent Fine ≡ true → Stage n (turn_world w Recorder payload lent Fine)
+  turn : (n : ℕ) (w : World) → Stage (suc n) w → (payload lent : List ℕ) → takes w Recorder payload lent None ≡ true → Stage n (turn_world w Recorder payload lent None)
   turn n w d payload lent g =
-      let me = mover-is P S v on power-ok slot-ok w d.real Recorder payload lent Fine g in
-      let still = flags-same P S v on power-ok slot-ok w d.real Recorder payload lent Fine g (ap sets_none d.at ∙ stage-sets-none (suc n)) in
-      subst (Stage n) (sym (turn-is-after P S v on power-ok slot-ok w d.real Recorder payload lent Fine g))
+      let me = mover-is P S v on power-ok slot-ok w d.real Recorder payload lent None g in
+      let still = flags-same P S v on power-ok slot-ok w d.real Recorder payload lent None g (ap sets_none d.at ∙ stage-sets-none (suc n)) in
+      subst (Stage n) (sym (turn-is-after P S v on power-ok slot-ok w d.real Recorder payload lent None g))
       (record {
-        real = real-after P S v on power-ok slot-ok w d.real Recorder payload lent Fine g;
-        none = none_after P S v on power-ok slot-ok w d.real Recorder payload lent Fine g d.none;
+        real = real-after P S v on power-ok slot-ok w d.real Recorder payload lent None g;
+        none = none_after P S v on power-ok slot-ok w d.real Recorder payload lent None g d.none;
         left = ap (door_of Recorder) still ∙ d.left;
         blocking = ap (λ (q : Party). q.blocking) me ∙ d.blocking;
         at = ap (λ (q : Party). q.step) me ∙ leads-on w (suc n) d payload lent g n d.at (omega (arith, d.few));
         few = omega (arith, d.few);
       })
 
-  told-last : (w : World) → Stage 0 w → (payload lent : List ℕ) → takes w Recorder payload lent Fine ≡ true → (turn_spec Recorder w.region (party_in w Recorder) payload lent Fine).answer ≡ Closed
+  told-last : (w : World) → Stage 0 w → (payload lent : List ℕ) → takes w Recorder payload lent None ≡ true → (turn_spec Recorder w.region (party_in w Recorder) payload lent None).answer ≡ Closed
   told-last w d payload lent g = given-only (turn-taken g (none_left d.at (told_at w 0 d payload lent g (LastLook false) d.at ∙ ap as_room d.none)))
 
 module _ (r : List ℕ) (P S : ℕ) (on : Bool) (v : ℕ) (fresh : Fresh r P S on v) where
@@ -131,5 +131,5 @@ module _ (r : List ℕ) (P S : ℕ) (on : Bool) (v : ℕ) (fresh : Fresh r P S o
       let start : Stage P S v on power-ok slot-ok 2 w = record { real = real-reached r P S on v fresh hs t; none = sym (waiting-is r P S on v fresh hs t) ∙ none; left = rw (down, closed) refl; blocking = blocking; at = look; few = omega arith } in
       let e : 2 ≡ ticks ms w + 0 = omega (arith, two) in
       let last = counted-off Recorder (Stage P S v on power-ok slot-ok) (λ n. moving P S v on power-ok slot-ok (suc n)) (turn P S v on power-ok slot-ok) (moving P S v on power-ok slot-ok 0) ms w turns 0 (subst (λ (k : ℕ). Stage P S v on power-ok slot-ok k w) e start) in
-      subst (λ (u : World). takes u Recorder payload lent Fine ≡ true → (turn_spec Recorder u.region (party_in u Recorder) payload lent Fine).answer ≡ Closed) (sym (run-parts hs ms (opened (created r P S on v))))
+      subst (λ (u : World). takes u Recorder payload lent None ≡ true → (turn_spec Recorder u.region (party_in u Recorder) payload lent None).answer ≡ Closed) (sym (run-parts hs ms (opened (created r P S on v))))
       (told-last P S v on power-ok slot-ok (run ms w) last payload lent)

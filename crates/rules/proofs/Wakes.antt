@@ -1,4 +1,5 @@
 -- Whom a wake call wakes, what a wait names, and how a wait fails.
+use Rattle.std.specs.Prelude.{Some}
 use mathlib.Core.Path.{◌≡◌, refl, sym, ap, ◌∙◌, subst}
 use mathlib.Core.Bool.{Bool, true, false}
 use mathlib.Core.List.{List}
@@ -16,7 +17,6 @@ use Rattle.types.specs.declared.Bell.{Bell}
 use Rattle.types.specs.declared.Bell.TheVariants.{NotEmpty, NotFull}
 use Rattle.types.specs.declared.Own.{Own}
 use Rattle.types.specs.declared.Party.{Party}
-use Rattle.types.specs.declared.Fault.TheVariants.{Error}
 use Rattle.types.specs.declared.Access.TheVariants.{WaitBell, WakeBell}
 use Rattle.types.specs.declared.Nap.TheVariants.{Returns, Fails}
 use Rattle.types.specs.declared.Step.{Step}
@@ -169,13 +169,13 @@ wait-fails side w epoch n payload lent s g =
     let p = party_in w side in
     let value = value_of w.region p.own (next_spec p) in (
       λ q.
-          ap (λ (x : World). (party_in x side).step) (turn-happens side payload lent (Error n) w ∙ taken_is w side payload lent (Error n) g)
+          ap (λ (x : World). (party_in x side).step) (turn-happens side payload lent (Some n) w ∙ taken_is w side payload lent (Some n) g)
           ∙ ap (λ (x : Party). x.step) (seat-own side w.bench _ _)
           ∙ ap (λ (x : Step). step_after (move_at x p.own p.counter p.blocking p.length value n) x) s
           ∙ rw (nap-returns n (eqb value epoch) q) refl,
       λ a b c.
           given-only (turn-taken g (wait-failed s (nap-fails n (eqb value epoch) (fault-above side p _ _ _ n g) a b c)))
-          ∙ ap (λ (τ : Side). Syscall (wait_op (sleep_bell τ)) n) (side-is side p (is-sound w side payload lent (Error n) g))
+          ∙ ap (λ (τ : Side). Syscall (wait_op (sleep_bell τ)) n) (side-is side p (is-sound w side payload lent (Some n) g))
           ∙ ap (λ (m : ℕ). Syscall m n) (numbered side),
     )
   where

@@ -1,5 +1,5 @@
 -- T17: what holds of turns over any region and any record, whoever made them: corruption, shutdown, close, wakes, and waits that fail.
-use Rattle.std.specs.Prelude.{◌≡◌, Bool, true, false, List, [], ◌∷◌, ◌⊎◌, ℕ, ◌<◌, length}
+use Rattle.std.specs.Prelude.{◌≡◌, Bool, true, false, List, [], ◌∷◌, ◌⊎◌, ℕ, ◌<◌, length, None, Some}
 use Rattle.words.specs.Le.{le_at, put_le}
 use Rattle.words.specs.Wrap.{next}
 use Rattle.types.specs.Pick.{pick}
@@ -8,11 +8,9 @@ use Rattle.types.specs.declared.Side.TheVariants.{Sender, Recorder}
 use Rattle.types.specs.declared.Bell.{Bell}
 use Rattle.types.specs.declared.Bell.TheVariants.{NotEmpty, NotFull}
 use Rattle.types.specs.declared.Mark.TheVariants.{Shutdown as ShutMark}
-use Rattle.types.specs.declared.Woke.TheVariants.{Nobody}
 use Rattle.types.specs.declared.Party.{Party}
 use Rattle.types.specs.declared.Access.TheVariants.{WakeBell}
-use Rattle.types.specs.declared.Fault.{Fault}
-use Rattle.types.specs.declared.Fault.TheVariants.{Fine, Error}
+use Rattle.types.specs.Faults.{Fault}
 use Rattle.types.specs.declared.Step.{Step}
 use Rattle.types.specs.declared.Step.TheVariants.{Rest, Look, Wake, Wait, CloseSet, CloseWake, ShutSet, ShutRaiseNe, ShutWakeNe, ShutRaiseNf, ShutWakeNf}
 use Rattle.types.specs.declared.Event.TheVariants.{Failing}
@@ -63,7 +61,7 @@ answers_of side (l ∷ ls) w = told side w l.payload l.buffer l.fault ∷ answer
 -- no failure is announced as 0
 abbrev pub NoneZero : List Lent → Type 0
 NoneZero [] = Unit
-NoneZero (l ∷ ls) = (l.fault ≡ Error 0 → ⊥) × NoneZero ls
+NoneZero (l ∷ ls) = (l.fault ≡ Some 0 → ⊥) × NoneZero ls
 
 -- bit 5 set, and both bells raised, once each: no other byte
 abbrev pub rung_in : Bell → List ℕ → List ℕ
@@ -95,9 +93,9 @@ CorruptSeen = (side : Side) (r : List ℕ) (p : Party) (payload lent : List ℕ)
 
 -- a shutdown does the same, and answers the first of its two wakes that failed
 abbrev pub first_failed : (first second : Fault) → Answer
-first_failed Fine Fine = Done 0 0
-first_failed Fine (Error e) = Syscall 3 e
-first_failed (Error e) second = Syscall 1 e
+first_failed None None = Done 0 0
+first_failed None (Some e) = Syscall 3 e
+first_failed (Some e) second = Syscall 1 e
 
 abbrev pub ShutdownTold : Side → Type 0
 ShutdownTold side = (w : World) → sound side (party_in w side) ≡ true → length w.region ≡ total_bytes (party_in w side).own.power (party_in w side).own.slot
@@ -107,8 +105,8 @@ ShutdownTold side = (w : World) → sound side (party_in w side) ≡ true → le
 
 -- a close sets its bit, raises and wakes, and answers 17 if that wake failed; a recorder's sets its bit alone, where not-full is off
 abbrev pub close_ends : Side → Fault → Answer
-close_ends side Fine = Done 0 0
-close_ends side (Error e) = Syscall (wake_no side) e
+close_ends side None = Done 0 0
+close_ends side (Some e) = Syscall (wake_no side) e
 
 abbrev pub CloseTold : Side → Type 0
 CloseTold side = (w : World) → sound side (party_in w side) ≡ true → length w.region ≡ total_bytes (party_in w side).own.power (party_in w side).own.slot
@@ -123,8 +121,8 @@ CloseTold side = (w : World) → sound side (party_in w side) ≡ true → lengt
 
 -- P6, C6: a call's wake answers its length and tag, or 17 if it failed, and touches no byte
 abbrev pub wake_ends : Side → (length tag : ℕ) → Fault → Answer
-wake_ends side length tag Fine = Done length tag
-wake_ends side length tag (Error e) = Syscall (wake_no side) e
+wake_ends side length tag None = Done length tag
+wake_ends side length tag (Some e) = Syscall (wake_no side) e
 
 abbrev pub WakeTold : Side → Type 0
 WakeTold side = (w : World) → sound side (party_in w side) ≡ true → length w.region ≡ total_bytes (party_in w side).own.power (party_in w side).own.slot
@@ -134,7 +132,7 @@ WakeTold side = (w : World) → sound side (party_in w side) ≡ true → length
 
 -- a wake that fails wakes nobody
 abbrev pub FailedWakesNobody : Type 0
-FailedWakesNobody = (side : Side) (r : List ℕ) (p : Party) (payload lent : List ℕ) (e : ℕ) → (turn_spec side r p payload lent (Error e)).woke ≡ Nobody
+FailedWakesNobody = (side : Side) (r : List ℕ) (p : Party) (payload lent : List ℕ) (e : ℕ) → (turn_spec side r p payload lent (Some e)).woke ≡ None
 
 -- P6 and C6 wake one, and every other wake call wakes all
 abbrev pub WakesSoMany : Type 0
@@ -157,6 +155,6 @@ wait_no Recorder = 0
 
 -- a wait that fails with 4 or 11 returns to the look; with any other error but 110 it answers 17 with that error
 abbrev pub WaitFails : Side → Type 0
-WaitFails side = (w : World) (epoch error : ℕ) (payload lent : List ℕ) → (party_in w side).step ≡ Wait epoch → takes w side payload lent (Error error) ≡ true
+WaitFails side = (w : World) (epoch error : ℕ) (payload lent : List ℕ) → (party_in w side).step ≡ Wait epoch → takes w side payload lent (Some error) ≡ true
     → ((error ≡ 4) ⊎ (error ≡ 11) → (party_in (happens (plays (Failing side error) payload lent) w) side).step ≡ Look)
-    × ((error ≡ 4 → ⊥) → (error ≡ 11 → ⊥) → (error ≡ 110 → ⊥) → told side w payload lent (Error error) ≡ Syscall (wait_no side) error)
+    × ((error ≡ 4 → ⊥) → (error ≡ 11 → ⊥) → (error ≡ 110 → ⊥) → told side w payload lent (Some error) ≡ Syscall (wait_no side) error)

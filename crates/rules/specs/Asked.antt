@@ -1,5 +1,5 @@
 -- What a side's call was asked for, by the entries of the run: kept for the statements of `Meaning`. `Grounds` takes `lent_of` alone.
-use Rattle.std.specs.Prelude.{◌≡◌, Bool, true, false, ◌&&◌, ◌||◌, List, [], ◌∷◌, ◌++◌, ℕ, eqb}
+use Rattle.std.specs.Prelude.{◌≡◌, Bool, true, false, ◌&&◌, ◌||◌, List, [], ◌∷◌, ◌++◌, ℕ, eqb, None, Some}
 use Rattle.types.specs.Pick.{pick}
 use Rattle.types.specs.Answers.{number}
 use Rattle.types.specs.declared.Side.{Side}
@@ -9,8 +9,7 @@ use Rattle.types.specs.declared.Mark.TheVariants.{Shutdown as ShutMark}
 use Rattle.types.specs.declared.Stance.{Stance}
 use Rattle.types.specs.declared.Stance.TheVariants.{Resting, Sleeping, Copying, Publishing, Closing, Moving}
 use Rattle.types.specs.declared.Answer.{Answer}
-use Rattle.types.specs.declared.Fault.{Fault}
-use Rattle.types.specs.declared.Fault.TheVariants.{Fine, Error}
+use Rattle.types.specs.Faults.{Fault}
 use Rattle.types.specs.declared.Event.TheVariants.{Turn, Failing, Spurious, TimeOut, Push, Pop, Close, Shutdown}
 use Rattle.layout.specs.Flags.{worth, close_mark}
 use Rattle.rules.specs.Sides.{same_side}
@@ -62,8 +61,8 @@ turn_call side w mover payload buffer fault c =
 
 abbrev pub call_after : Side → Happening → World → Call → Call
 call_after side (attaches mover spins) w c = c
-call_after side (plays (Turn mover) payload buffer) w c = turn_call side w mover payload buffer Fine c
-call_after side (plays (Failing mover error) payload buffer) w c = turn_call side w mover payload buffer (Error error) c
+call_after side (plays (Turn mover) payload buffer) w c = turn_call side w mover payload buffer None c
+call_after side (plays (Failing mover error) payload buffer) w c = turn_call side w mover payload buffer (Some error) c
 call_after side (plays (Spurious mover) payload buffer) w c = c
 call_after side (plays (TimeOut mover) payload buffer) w c = c
 call_after side (plays (Push blocking tag length) payload buffer) w c =
@@ -121,7 +120,7 @@ abbrev pub timed_after : Side → Happening → World → Bool → Bool
 timed_after side (attaches mover spins) w b = b
 timed_after side (plays (Turn mover) payload buffer) w b = b
 timed_after side (plays (Failing mover error) payload buffer) w b =
-    (same_side side mover && (takes w mover payload buffer (Error error) && (at_wait (phase (party_in w mover).step) && eqb error 110))) || b
+    (same_side side mover && (takes w mover payload buffer (Some error) && (at_wait (phase (party_in w mover).step) && eqb error 110))) || b
 timed_after side (plays (Spurious mover) payload buffer) w b = b
 timed_after side (plays (TimeOut mover) payload buffer) w b = (same_side side mover && is_sleeping (stance_of (party_in w mover).step)) || b
 timed_after side (plays (Push blocking tag length) payload buffer) w b = pick (same_side side Sender && begun (push_spec (party_in w Sender) blocking tag length).answer) false b

@@ -1,5 +1,5 @@
 -- Both parties and their sleeping places: what an event makes of them, of the region and of the buffer.
-use Rattle.std.specs.Prelude.{Bool, true, false, ◌&&◌, List, ℕ}
+use Rattle.std.specs.Prelude.{Bool, true, false, ◌&&◌, List, ℕ, None, Some}
 use Rattle.types.specs.Pick.{pick}
 use Rattle.types.specs.declared.Side.{Side}
 use Rattle.types.specs.declared.Side.TheVariants.{Sender, Recorder}
@@ -8,10 +8,8 @@ use Rattle.types.specs.declared.Bell.TheVariants.{NotEmpty, NotFull}
 use Rattle.types.specs.declared.Party.{Party}
 use Rattle.types.specs.declared.Reply.{Reply}
 use Rattle.types.specs.declared.Turned.{Turned}
-use Rattle.types.specs.declared.Fault.{Fault}
-use Rattle.types.specs.declared.Fault.TheVariants.{Fine, Error}
-use Rattle.types.specs.declared.Woke.{Woke}
-use Rattle.types.specs.declared.Woke.TheVariants.{Nobody, SleeperOn}
+use Rattle.types.specs.Faults.{Fault}
+use Rattle.types.specs.Faults.{Woke}
 use Rattle.types.specs.declared.Step.TheVariants.{Look}
 use Rattle.types.specs.declared.Bench.{Bench}
 use Rattle.types.specs.declared.Played.{Played}
@@ -38,8 +36,8 @@ same_bell NotFull NotEmpty = false
 same_bell NotFull NotFull = true
 
 abbrev pub hears : Side → Woke → Bool
-hears side Nobody = false
-hears side (SleeperOn b) = same_bell b (sleep_bell side)
+hears side None = false
+hears side (Some b) = same_bell b (sleep_bell side)
 
 -- a wake leads a sleeper to its look, and moves nobody else
 unfoldable pub wakened : Side → Party → Woke → Party
@@ -61,8 +59,8 @@ module _ (region : List ℕ) (b : Bench) (payload buffer : List ℕ) where
   turn_played side fault = turned b side (turn_spec side region (party_of b side) payload buffer fault)
 
   unfoldable pub played : Event → Played
-  played (Turn side) = turn_played side Fine
-  played (Failing side error) = turn_played side (Error error)
+  played (Turn side) = turn_played side None
+  played (Failing side error) = turn_played side (Some error)
   played (Spurious side) = settled b side (spurious_spec side (party_of b side))
   played (TimeOut side) = settled b side (timeout_spec side (party_of b side))
   played (Push blocking tag length) = settled b Sender (push_spec b.sender blocking tag length)
@@ -71,8 +69,8 @@ module _ (region : List ℕ) (b : Bench) (payload buffer : List ℕ) where
   played (Shutdown side) = settled b side (shut_spec side (party_of b side))
 
   unfoldable pub played_leaves : Event → List ℕ
-  played_leaves (Turn side) = turn_leaves side region (party_of b side) payload buffer Fine
-  played_leaves (Failing side error) = turn_leaves side region (party_of b side) payload buffer (Error error)
+  played_leaves (Turn side) = turn_leaves side region (party_of b side) payload buffer None
+  played_leaves (Failing side error) = turn_leaves side region (party_of b side) payload buffer (Some error)
   played_leaves (Spurious side) = region
   played_leaves (TimeOut side) = region
   played_leaves (Push blocking tag length) = region
@@ -81,8 +79,8 @@ module _ (region : List ℕ) (b : Bench) (payload buffer : List ℕ) where
   played_leaves (Shutdown side) = region
 
   unfoldable pub played_buffer : Event → List ℕ
-  played_buffer (Turn side) = turn_buffer side region (party_of b side) payload buffer Fine
-  played_buffer (Failing side error) = turn_buffer side region (party_of b side) payload buffer (Error error)
+  played_buffer (Turn side) = turn_buffer side region (party_of b side) payload buffer None
+  played_buffer (Failing side error) = turn_buffer side region (party_of b side) payload buffer (Some error)
   played_buffer (Spurious side) = buffer
   played_buffer (TimeOut side) = buffer
   played_buffer (Push blocking tag length) = buffer

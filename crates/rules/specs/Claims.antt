@@ -1,12 +1,11 @@
 -- What is claimed of every run: demand 3 in document 01's words. The proofs are in proofs/.
-use Rattle.std.specs.Prelude.{◌≡◌, Bool, true, false, not, ◌&&◌, ◌||◌, List, [], ◌∷◌, ◌++◌, ℕ, ◌+◌, ◌-◌, ◌*◌, ◌^◌, ◌<◌, ◌≤◌, leb, length, take}
+use Rattle.std.specs.Prelude.{◌≡◌, Bool, true, false, not, ◌&&◌, ◌||◌, List, [], ◌∷◌, ◌++◌, ℕ, ◌+◌, ◌-◌, ◌*◌, ◌^◌, ◌<◌, ◌≤◌, leb, length, take, None, Some}
 use Rattle.words.specs.Le.{le_at}
 use Rattle.words.specs.Wrap.{minus}
 use Rattle.types.specs.Pick.{pick}
 use Rattle.types.specs.declared.Side.{Side}
 use Rattle.types.specs.declared.Side.TheVariants.{Sender, Recorder}
-use Rattle.types.specs.declared.Fault.{Fault}
-use Rattle.types.specs.declared.Fault.TheVariants.{Fine, Error}
+use Rattle.types.specs.Faults.{Fault}
 use Rattle.types.specs.declared.Step.{Step}
 use Rattle.types.specs.declared.Step.TheVariants.{Rest, Look, Spin, Again, Publish, Check, Wake, Asleep, CloseSet, ShutSet}
 use Rattle.types.specs.declared.Stance.{Stance}
@@ -38,8 +37,8 @@ room Recorder capacity w = waiting w
 
 -- a turn of a side, its failure announced or not
 abbrev pub turn_of : Side → Fault → Event
-turn_of side Fine = Turn side
-turn_of side (Error e) = Failing side e
+turn_of side None = Turn side
+turn_of side (Some e) = Failing side e
 
 -- a pop that delivers its note in this turn, or has delivered it
 pub data Delivering : Step → Type 0 where
@@ -264,8 +263,8 @@ module _ (region : List ℕ) (power slot : ℕ) (notfull : Bool) (start : ℕ) w
   ToldClosed = (hs ms : List Happening) → AllTyped hs
       → waiting (reached hs) ≡ 0 → down (reached hs) ≡ false → closed_bit Sender (reached hs) ≡ true
       → (party_in (reached hs) Recorder).step ≡ Look → (party_in (reached hs) Recorder).blocking ≡ true → Turns Recorder ms → ticks ms (reached hs) ≡ 2
-      → (payload lent : List ℕ) → takes (reached (hs ++ ms)) Recorder payload lent Fine ≡ true
-      → (turn_spec Recorder (reached (hs ++ ms)).region (party_in (reached (hs ++ ms)) Recorder) payload lent Fine).answer ≡ Closed
+      → (payload lent : List ℕ) → takes (reached (hs ++ ms)) Recorder payload lent None ≡ true
+      → (turn_spec Recorder (reached (hs ++ ms)).region (party_in (reached (hs ++ ms)) Recorder) payload lent None).answer ≡ Closed
 
   -- and whatever is answered 13 is answered so over no room: no note for the recorder, no free slot for the sender
   abbrev pub TimeoutOverNone : Side → Type 0

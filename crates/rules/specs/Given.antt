@@ -6,7 +6,7 @@ use Rattle.types.specs.declared.Side.{Side}
 use Rattle.types.specs.declared.Side.TheVariants.{Sender, Recorder}
 use Rattle.types.specs.declared.Bell.TheVariants.{NotEmpty, NotFull}
 use Rattle.types.specs.declared.Party.{Party}
-use Rattle.types.specs.declared.Fault.{Fault}
+use Rattle.types.specs.Faults.{Fault}
 use Rattle.types.specs.declared.Room.TheVariants.{Blocked}
 use Rattle.types.specs.declared.Door.TheVariants.{Shut, Left}
 use Rattle.types.specs.declared.Fit.TheVariants.{Bad, Small}

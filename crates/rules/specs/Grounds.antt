@@ -1,10 +1,9 @@
 -- 20's grounds, in document 01's words: where one of them holds 20 is answered, and nowhere else.
-use Rattle.std.specs.Prelude.{◌≡◌, false, List, ℕ, ◌%◌, ◌<◌, length}
+use Rattle.std.specs.Prelude.{◌≡◌, false, List, ℕ, ◌%◌, ◌<◌, length, Some}
 use Rattle.types.specs.declared.Side.{Side}
 use Rattle.types.specs.declared.Side.TheVariants.{Sender, Recorder}
 use Rattle.types.specs.declared.Party.{Party}
-use Rattle.types.specs.declared.Fault.{Fault}
-use Rattle.types.specs.declared.Fault.TheVariants.{Error}
+use Rattle.types.specs.Faults.{Fault}
 use Rattle.types.specs.declared.Step.TheVariants.{Rest, Copy}
 use Rattle.types.specs.declared.Answer.TheVariants.{BadCall}
 use Rattle.layout.specs.Limits.{least_power, most_power, least_slot, most_slot, slot_step, most_spins, payload_capacity, total_bytes}
@@ -34,7 +33,7 @@ pub data Untaken (side : Side) (r : List ℕ) (p : Party) (payload buffer : List
   untaken : Unsound side p → Untaken side r p payload buffer fault
   region-length : (length r ≡ total_bytes p.own.power p.own.slot → ⊥) → Untaken side r p payload buffer fault
   copy-lent : p.step ≡ Copy → (length (lent_of side payload buffer) ≡ p.length → ⊥) → Untaken side r p payload buffer fault
-  error-0 : fault ≡ Error 0 → Untaken side r p payload buffer fault
+  error-0 : fault ≡ Some 0 → Untaken side r p payload buffer fault
 
 abbrev pub Grounds : Ask → Type 0
 Grounds (create r power slot notfull start) = ⊥

@@ -1,15 +1,13 @@
 -- What each answer leaves behind: document 01's paragraph under its table of answers.
-use Rattle.std.specs.Prelude.{◌≡◌, List, ℕ}
+use Rattle.std.specs.Prelude.{◌≡◌, List, ℕ, None, Some}
 use Rattle.types.specs.declared.Bench.{Bench}
 use Rattle.types.specs.declared.Party.{Party}
 use Rattle.types.specs.declared.Side.{Side}
 use Rattle.types.specs.declared.Side.TheVariants.{Sender, Recorder}
-use Rattle.types.specs.declared.Fault.TheVariants.{Fine, Error}
 use Rattle.types.specs.declared.Event.{Event}
 use Rattle.types.specs.declared.Event.TheVariants.{Turn, Failing, Spurious, TimeOut, Push, Pop, Close, Shutdown as Shut}
 use Rattle.types.specs.declared.Step.TheVariants.{Rest, Look, Asleep}
-use Rattle.types.specs.declared.Woke.{Woke}
-use Rattle.types.specs.declared.Woke.TheVariants.{Nobody, SleeperOn}
+use Rattle.types.specs.Faults.{Woke}
 use Rattle.types.specs.declared.Answer.{Answer}
 use Rattle.types.specs.declared.Answer.TheVariants.{Done, InvalidMagic, UnsupportedVersion, InvalidHeaderSize, InvalidLayout, InvalidCapacity, InvalidSlotSize, CorruptIndices, CorruptSlot, Full, Empty, Closed, Shutdown, Timeout, WouldBlock, OutputTooSmall, AlreadyAttached, Syscall, PayloadTooLong, NotFullOff, BadCall, Nothing, Begun, GoesOn}
 use Rattle.layout.specs.Create.{create_leaves}
@@ -42,7 +40,7 @@ RecordKept (close side p) = (close_spec side p).party ≡ p
 RecordKept (shutdown side p) = (shut_spec side p).party ≡ p
 RecordKept (spurious side p) = (spurious_spec side p).party ≡ p
 RecordKept (timeout side p) = (timeout_spec side p).party ≡ p
-RecordKept (turn side r p i o f) = ((turn_spec side r p i o f).party ≡ p) × ((turn_spec side r p i o f).woke ≡ Nobody)
+RecordKept (turn side r p i o f) = ((turn_spec side r p i o f).party ≡ p) × ((turn_spec side r p i o f).woke ≡ None)
 
 -- nothing changes anywhere
 abbrev pub Unchanged : Ask → Type 0
@@ -100,8 +98,8 @@ LeavesAllKept = (a : Ask) → LeavesKept (answered a) a
 
 -- what an event asks of a bench
 abbrev pub ask_of : (region : List ℕ) → Bench → (payload buffer : List ℕ) → Event → Ask
-ask_of r b i o (Turn side) = turn side r (party_of b side) i o Fine
-ask_of r b i o (Failing side error) = turn side r (party_of b side) i o (Error error)
+ask_of r b i o (Turn side) = turn side r (party_of b side) i o None
+ask_of r b i o (Failing side error) = turn side r (party_of b side) i o (Some error)
 ask_of r b i o (Spurious side) = spurious side (party_of b side)
 ask_of r b i o (TimeOut side) = timeout side (party_of b side)
 ask_of r b i o (Push blocking tag length) = push b.sender blocking tag length
@@ -139,8 +137,8 @@ whose (Close side) = side
 whose (Shut side) = side
 
 abbrev pub record_after : (region : List ℕ) → Bench → (payload buffer : List ℕ) → Event → Party
-record_after r b i o (Turn side) = (turn_spec side r (party_of b side) i o Fine).party
-record_after r b i o (Failing side error) = (turn_spec side r (party_of b side) i o (Error error)).party
+record_after r b i o (Turn side) = (turn_spec side r (party_of b side) i o None).party
+record_after r b i o (Failing side error) = (turn_spec side r (party_of b side) i o (Some error)).party
 record_after r b i o (Spurious side) = (spurious_spec side (party_of b side)).party
 record_after r b i o (TimeOut side) = (timeout_spec side (party_of b side)).party
 record_after r b i o (Push blocking tag length) = (push_spec b.sender blocking tag length).party
@@ -149,21 +147,21 @@ record_after r b i o (Close side) = (close_spec side (party_of b side)).party
 record_after r b i o (Shut side) = (shut_spec side (party_of b side)).party
 
 abbrev pub woke_after : (region : List ℕ) → Bench → (payload buffer : List ℕ) → Event → Woke
-woke_after r b i o (Turn side) = (turn_spec side r (party_of b side) i o Fine).woke
-woke_after r b i o (Failing side error) = (turn_spec side r (party_of b side) i o (Error error)).woke
-woke_after r b i o (Spurious side) = Nobody
-woke_after r b i o (TimeOut side) = Nobody
-woke_after r b i o (Push blocking tag length) = Nobody
-woke_after r b i o (Pop blocking length) = Nobody
-woke_after r b i o (Close side) = Nobody
-woke_after r b i o (Shut side) = Nobody
+woke_after r b i o (Turn side) = (turn_spec side r (party_of b side) i o None).woke
+woke_after r b i o (Failing side error) = (turn_spec side r (party_of b side) i o (Some error)).woke
+woke_after r b i o (Spurious side) = None
+woke_after r b i o (TimeOut side) = None
+woke_after r b i o (Push blocking tag length) = None
+woke_after r b i o (Pop blocking length) = None
+woke_after r b i o (Close side) = None
+woke_after r b i o (Shut side) = None
 
 abbrev pub BenchSeats : Type 0
 BenchSeats = (r : List ℕ) (b : Bench) (payload buffer : List ℕ) (e : Event) → party_of (played r b payload buffer e).bench (whose e) ≡ record_after r b payload buffer e
 
 -- one that sleeps rises to its look where somebody on its own bell was woken; nothing else of the other's record ever changes
 abbrev pub Hears : Side → Woke → (before after : Party) → Type 0
-Hears side w p q = (w ≡ SleeperOn (sleep_bell side) → p.step ≡ Asleep → q ≡ at Look p) × ((w ≡ SleeperOn (sleep_bell side) → p.step ≡ Asleep → ⊥) → q ≡ p)
+Hears side w p q = (w ≡ Some (sleep_bell side) → p.step ≡ Asleep → q ≡ at Look p) × ((w ≡ Some (sleep_bell side) → p.step ≡ Asleep → ⊥) → q ≡ p)
 
 abbrev pub BenchWakes : Type 0
 BenchWakes = (r : List ℕ) (b : Bench) (payload buffer : List ℕ) (e : Event)

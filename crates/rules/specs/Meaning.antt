@@ -1,6 +1,6 @@
 -- What a call does of what it was asked, and what its answers mean: T14 to T16, of every run; and T17's `WaitsAsRead`.
 -- A world here is one that a run leads to: `reached`, of `Claims`.
-use Rattle.std.specs.Prelude.{◌≡◌, Bool, true, false, ◌&&◌, ◌||◌, List, [], ◌∷◌, ◌++◌, ◌⊎◌, ℕ, ◌+◌, ◌%◌, ◌^◌, ◌<◌, ◌≤◌, eqb, length, take, drop}
+use Rattle.std.specs.Prelude.{◌≡◌, Bool, true, false, ◌&&◌, ◌||◌, List, [], ◌∷◌, ◌++◌, ◌⊎◌, ℕ, ◌+◌, ◌%◌, ◌^◌, ◌<◌, ◌≤◌, eqb, length, take, drop, None, Some}
 use Rattle.words.specs.Le.{le_at}
 use Rattle.words.specs.Wrap.{plus}
 use Rattle.types.specs.Pick.{pick}
@@ -10,8 +10,7 @@ use Rattle.types.specs.declared.Side.TheVariants.{Sender, Recorder}
 use Rattle.types.specs.declared.Bell.{Bell}
 use Rattle.types.specs.declared.Mark.TheVariants.{Shutdown as ShutMark}
 use Rattle.types.specs.declared.Access.TheVariants.{WaitBell}
-use Rattle.types.specs.declared.Fault.{Fault}
-use Rattle.types.specs.declared.Fault.TheVariants.{Fine, Error}
+use Rattle.types.specs.Faults.{Fault}
 use Rattle.types.specs.declared.Step.TheVariants.{Rest, Look, Copy, Wait, Asleep}
 use Rattle.types.specs.declared.Event.TheVariants.{Turn, Failing, Spurious, TimeOut, Push, Pop, Close, Shutdown as Shut}
 use Rattle.types.specs.declared.Answer.{Answer}
@@ -83,9 +82,9 @@ tells_note w payload lent fault c ns = pick (c.last && gave Sender (told Sender 
 
 abbrev pub told_after : Happening → World → Call → List Note → List Note
 told_after (attaches mover spins) w c ns = ns
-told_after (plays (Turn Sender) payload lent) w c ns = tells_note w payload lent Fine c ns
+told_after (plays (Turn Sender) payload lent) w c ns = tells_note w payload lent None c ns
 told_after (plays (Turn Recorder) payload lent) w c ns = ns
-told_after (plays (Failing Sender error) payload lent) w c ns = tells_note w payload lent (Error error) c ns
+told_after (plays (Failing Sender error) payload lent) w c ns = tells_note w payload lent (Some error) c ns
 told_after (plays (Failing Recorder error) payload lent) w c ns = ns
 told_after (plays (Spurious mover) payload lent) w c ns = ns
 told_after (plays (TimeOut mover) payload lent) w c ns = ns
@@ -101,7 +100,7 @@ told_by (h ∷ hs) w c ns = told_by hs (happens h w) (call_after Sender h w c) (
 -- a time-out: of a sleeper, or as error 110 of a wait
 pub data TimesOut (side : Side) (w : World) : Happening → Type 0 where
   asleep : {payload lent : List ℕ} → (party_in w side).step ≡ Asleep → TimesOut side w (plays (TimeOut side) payload lent)
-  failing : {epoch : ℕ} {payload lent : List ℕ} → (party_in w side).step ≡ Wait epoch → takes w side payload lent (Error 110) ≡ true → TimesOut side w (plays (Failing side 110) payload lent)
+  failing : {epoch : ℕ} {payload lent : List ℕ} → (party_in w side).step ≡ Wait epoch → takes w side payload lent (Some 110) ≡ true → TimesOut side w (plays (Failing side 110) payload lent)
 
 module _ (region : List ℕ) (power slot : ℕ) (notfull : Bool) (start : ℕ) where
   abbrev pub world : List Happening → World
@@ -144,7 +143,7 @@ module _ (region : List ℕ) (power slot : ℕ) (notfull : Bool) (start : ℕ) w
   -- the turn of whoever is attached is taken, where a copy is lent the length that its call named and no failure is announced as 0
   abbrev pub TurnsTaken : Side → Type 0
   TurnsTaken side = (hs : List Happening) → AllTyped hs → (party_in (world hs) side).own.attached ≡ true → (payload lent : List ℕ) (fault : Fault)
-      → ((party_in (world hs) side).step ≡ Copy → length (lent_of side payload lent) ≡ (call_of side hs).length) → (fault ≡ Error 0 → ⊥)
+      → ((party_in (world hs) side).step ≡ Copy → length (lent_of side payload lent) ≡ (call_of side hs).length) → (fault ≡ Some 0 → ⊥)
       → takes (world hs) side payload lent fault ≡ true
 
   -- T15, true answers: what is answered is so

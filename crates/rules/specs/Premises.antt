@@ -1,11 +1,10 @@
 -- What the claims ask of a run, and what they ask of a world: the premises of document 01's demand 3.
-use Rattle.std.specs.Prelude.{◌≡◌, Bool, true, List, [], ◌∷◌, ◌⊎◌, ℕ, ◌+◌, ◌^◌, ◌<◌, length}
+use Rattle.std.specs.Prelude.{◌≡◌, Bool, true, List, [], ◌∷◌, ◌⊎◌, ℕ, ◌+◌, ◌^◌, ◌<◌, length, None, Some}
 use Rattle.words.specs.Le.{le_at}
 use Rattle.types.specs.Pick.{pick}
 use Rattle.types.specs.declared.Side.{Side}
 use Rattle.types.specs.declared.Side.TheVariants.{Sender, Recorder}
-use Rattle.types.specs.declared.Fault.{Fault}
-use Rattle.types.specs.declared.Fault.TheVariants.{Fine, Error}
+use Rattle.types.specs.Faults.{Fault}
 use Rattle.types.specs.declared.Step.TheVariants.{Rest, Wait, Asleep}
 use Rattle.types.specs.declared.Mark.TheVariants.{Shutdown as ShutMark}
 use Rattle.types.specs.declared.Event.TheVariants.{Turn, Failing, Spurious, TimeOut, Push, Pop, Close, Shutdown}
@@ -54,8 +53,8 @@ FairTurnBy Asked Recorder Recorder fault w = Asked Recorder w
 -- only a turn that is taken is asked anything
 abbrev pub FairBy : (Asked : Side → World → Type 0) → (waiter : Side) → Happening → World → Type 0
 FairBy Asked side (attaches mover spins) w = Unit
-FairBy Asked side (plays (Turn mover) payload lent) w = takes w mover payload lent Fine ≡ true → FairTurnBy Asked side mover Fine w
-FairBy Asked side (plays (Failing mover error) payload lent) w = takes w mover payload lent (Error error) ≡ true → FairTurnBy Asked side mover (Error error) w
+FairBy Asked side (plays (Turn mover) payload lent) w = takes w mover payload lent None ≡ true → FairTurnBy Asked side mover None w
+FairBy Asked side (plays (Failing mover error) payload lent) w = takes w mover payload lent (Some error) ≡ true → FairTurnBy Asked side mover (Some error) w
 FairBy Asked side (plays (Spurious mover) payload lent) w = Unit
 FairBy Asked side (plays (TimeOut mover) payload lent) w = Unit
 FairBy Asked side (plays (Push blocking tag length) payload lent) w = Unit

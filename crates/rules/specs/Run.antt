@@ -1,5 +1,5 @@
 -- A run: what happens, one thing after another, to a region and its two parties; and the notes that are sent and delivered.
-use Rattle.std.specs.Prelude.{Bool, List, [], ◌∷◌, ◌++◌, ℕ, ◌+◌, eqb, length, take}
+use Rattle.std.specs.Prelude.{Bool, List, [], ◌∷◌, ◌++◌, ℕ, ◌+◌, eqb, length, take, None, Some}
 use Rattle.types.specs.Pick.{pick}
 use Rattle.types.specs.Answers.{number}
 use Rattle.types.specs.declared.Side.{Side}
@@ -7,11 +7,10 @@ use Rattle.types.specs.declared.Side.TheVariants.{Sender, Recorder}
 use Rattle.types.specs.declared.Bell.{Bell}
 use Rattle.types.specs.declared.Bell.TheVariants.{NotEmpty, NotFull}
 use Rattle.types.specs.declared.Party.{Party}
-use Rattle.types.specs.declared.Fault.{Fault}
-use Rattle.types.specs.declared.Fault.TheVariants.{Fine, Error}
+use Rattle.types.specs.Faults.{Fault}
 use Rattle.types.specs.declared.Step.{Step}
 use Rattle.types.specs.declared.Access.{Access}
-use Rattle.types.specs.declared.Access.TheVariants.{None, LoadCounter, LoadFlags, LoadBell, WriteSlot, ReadSlot, StoreCounter, RaiseBell, SetFlag, WaitBell, WakeBell}
+use Rattle.types.specs.declared.Access.TheVariants.{None as NoAccess, LoadCounter, LoadFlags, LoadBell, WriteSlot, ReadSlot, StoreCounter, RaiseBell, SetFlag, WaitBell, WakeBell}
 use Rattle.types.specs.declared.Bench.{Bench}
 use Rattle.types.specs.declared.Event.{Event}
 use Rattle.types.specs.declared.Event.TheVariants.{Turn, Failing, Spurious, TimeOut, Push, Pop, Close, Shutdown}
@@ -107,7 +106,7 @@ abbrev pub carried : Step → Carried
 carried s = carried_at (phase s)
 
 abbrev pub traced : Access → Party → (payload buffer : List ℕ) → Trace → Trace
-traced None p payload buffer t = t
+traced NoAccess p payload buffer t = t
 traced (LoadCounter side) p payload buffer t = t
 traced LoadFlags p payload buffer t = t
 traced (LoadBell b) p payload buffer t = counted b (λ n. 0) t
@@ -126,8 +125,8 @@ turn_traced w side payload buffer fault =
     w.trace
 
 abbrev pub trace_after : World → Event → (payload buffer : List ℕ) → Trace
-trace_after w (Turn side) payload buffer = turn_traced w side payload buffer Fine
-trace_after w (Failing side error) payload buffer = turn_traced w side payload buffer (Error error)
+trace_after w (Turn side) payload buffer = turn_traced w side payload buffer None
+trace_after w (Failing side error) payload buffer = turn_traced w side payload buffer (Some error)
 trace_after w (Spurious side) payload buffer = w.trace
 trace_after w (TimeOut side) payload buffer = w.trace
 trace_after w (Push blocking tag length) payload buffer = w.trace

@@ -4,7 +4,7 @@ use Rattle.words.specs.Le.{le_at}
 use Rattle.types.specs.declared.Side.{Side}
 use Rattle.types.specs.declared.Side.TheVariants.{Recorder}
 use Rattle.types.specs.declared.Party.{Party}
-use Rattle.types.specs.declared.Fault.{Fault}
+use Rattle.types.specs.Faults.{Fault}
 use Rattle.types.specs.declared.Step.{Step}
 use Rattle.types.specs.declared.Step.TheVariants.{Rest, Copy, Publish}
 use Rattle.types.specs.declared.Answer.{Answer}

@@ -1,10 +1,9 @@
 -- A stretch of one party's own doings: its turns counted, its will, and what it has published.
-use Rattle.std.specs.Prelude.{◌≡◌, Bool, true, false, ◌&&◌, List, [], ◌∷◌, ◌++◌, ℕ, zero, suc, ◌+◌, ◌^◌, ◌<◌, ◌≤◌, length}
+use Rattle.std.specs.Prelude.{◌≡◌, Bool, true, false, ◌&&◌, List, [], ◌∷◌, ◌++◌, ℕ, zero, suc, ◌+◌, ◌^◌, ◌<◌, ◌≤◌, length, None, Some}
 use Rattle.types.specs.Pick.{pick}
 use Rattle.types.specs.declared.Side.{Side}
 use Rattle.types.specs.declared.Side.TheVariants.{Sender, Recorder}
-use Rattle.types.specs.declared.Fault.{Fault}
-use Rattle.types.specs.declared.Fault.TheVariants.{Fine, Error}
+use Rattle.types.specs.Faults.{Fault}
 use Rattle.types.specs.declared.Step.{Step}
 use Rattle.types.specs.declared.Step.TheVariants.{Copy}
 use Rattle.types.specs.declared.Stance.{Stance}
@@ -40,8 +39,8 @@ module _ (counted : Stance → Bool) where
 
   abbrev pub tick_by : Happening → World → ℕ
   tick_by (attaches other spins) w = 0
-  tick_by (plays (Turn mover) payload lent) w = counts_by w mover payload lent Fine
-  tick_by (plays (Failing mover error) payload lent) w = counts_by w mover payload lent (Error error)
+  tick_by (plays (Turn mover) payload lent) w = counts_by w mover payload lent None
+  tick_by (plays (Failing mover error) payload lent) w = counts_by w mover payload lent (Some error)
   tick_by (plays (Spurious mover) payload lent) w = 0
   tick_by (plays (TimeOut mover) payload lent) w = 0
   tick_by (plays (Push blocking tag length) payload lent) w = 0

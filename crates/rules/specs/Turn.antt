@@ -1,20 +1,18 @@
 -- A turn over a lent region: the next access, that access, and what becomes of the party. 20 is tested before all else.
-use Rattle.std.specs.Prelude.{Bool, true, false, ◌&&◌, List, ℕ, eqb, ltb, length}
+use Rattle.std.specs.Prelude.{Bool, true, false, ◌&&◌, List, ℕ, eqb, ltb, length, None, Some}
 use Rattle.types.specs.Pick.{pick}
 use Rattle.types.specs.declared.Side.{Side}
 use Rattle.types.specs.declared.Side.TheVariants.{Sender, Recorder}
 use Rattle.types.specs.declared.Bell.{Bell}
 use Rattle.types.specs.declared.Party.{Party}
 use Rattle.types.specs.declared.Turned.{Turned}
-use Rattle.types.specs.declared.Fault.{Fault}
-use Rattle.types.specs.declared.Fault.TheVariants.{Fine, Error}
-use Rattle.types.specs.declared.Woke.{Woke}
-use Rattle.types.specs.declared.Woke.TheVariants.{Nobody, SleeperOn}
+use Rattle.types.specs.Faults.{Fault}
+use Rattle.types.specs.Faults.{Woke}
 use Rattle.types.specs.declared.Stance.{Stance}
 use Rattle.types.specs.declared.Stance.TheVariants.{Resting, Sleeping, Copying, Publishing, Closing, Moving}
 use Rattle.types.specs.declared.Answer.TheVariants.{BadCall}
 use Rattle.types.specs.declared.Access.{Access}
-use Rattle.types.specs.declared.Access.TheVariants.{None, LoadCounter, LoadFlags, LoadBell, WriteSlot, ReadSlot, StoreCounter, RaiseBell, SetFlag, WaitBell, WakeBell}
+use Rattle.types.specs.declared.Access.TheVariants.{None as NoAccess, LoadCounter, LoadFlags, LoadBell, WriteSlot, ReadSlot, StoreCounter, RaiseBell, SetFlag, WaitBell, WakeBell}
 use Rattle.layout.specs.Limits.{total_bytes}
 use Rattle.rules.specs.Take.{stance_of, take_spec}
 use Rattle.rules.specs.Next.{next_spec}
@@ -23,12 +21,12 @@ use Rattle.rules.specs.Access.{value_of, leaves_of, buffer_of}
 
 -- the announced error; 0 is none, so none may be announced as 0
 abbrev pub error_of : Fault → ℕ
-error_of Fine = 0
-error_of (Error e) = e
+error_of None = 0
+error_of (Some e) = e
 
 abbrev pub fault_ok : Fault → Bool
-fault_ok Fine = true
-fault_ok (Error e) = ltb 0 e
+fault_ok None = true
+fault_ok (Some e) = ltb 0 e
 
 -- a copy turn is lent a buffer of the length that the call named: a push's payload, a pop's buffer
 abbrev pub lent_to : Side → (payload buffer : ℕ) → ℕ
@@ -52,20 +50,20 @@ goes side p region payload buffer fault =
 
 -- a wake that does not fail wakes a sleeper on its bell
 abbrev pub woke_with : (failed : Bool) → Bell → Woke
-woke_with false b = SleeperOn b
-woke_with true b = Nobody
+woke_with false b = Some b
+woke_with true b = None
 
 abbrev pub woke_of : Access → (error : ℕ) → Woke
-woke_of None error = Nobody
-woke_of (LoadCounter side) error = Nobody
-woke_of LoadFlags error = Nobody
-woke_of (LoadBell b) error = Nobody
-woke_of (WriteSlot n) error = Nobody
-woke_of (ReadSlot n) error = Nobody
-woke_of (StoreCounter side n) error = Nobody
-woke_of (RaiseBell b) error = Nobody
-woke_of (SetFlag m) error = Nobody
-woke_of (WaitBell b e) error = Nobody
+woke_of NoAccess error = None
+woke_of (LoadCounter side) error = None
+woke_of LoadFlags error = None
+woke_of (LoadBell b) error = None
+woke_of (WriteSlot n) error = None
+woke_of (ReadSlot n) error = None
+woke_of (StoreCounter side n) error = None
+woke_of (RaiseBell b) error = None
+woke_of (SetFlag m) error = None
+woke_of (WaitBell b e) error = None
 woke_of (WakeBell b n) error = woke_with (ltb 0 error) b
 
 -- a turn that goes
@@ -84,7 +82,7 @@ unfoldable pub act_buffer : List ℕ → Party → (buffer : List ℕ) → List 
 act_buffer region p buffer = buffer_of region p.own (next_spec p) p.length buffer
 
 abbrev pub refused : Party → Turned
-refused p = record { party = p; answer = BadCall; woke = Nobody }
+refused p = record { party = p; answer = BadCall; woke = None }
 
 module _ (side : Side) (region : List ℕ) (p : Party) (payload buffer : List ℕ) (fault : Fault) where
   abbrev pub taken : Bool

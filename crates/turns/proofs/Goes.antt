@@ -9,7 +9,7 @@ use Rattle.words.proofs.Runs.{and_left, and_right}
 use Rattle.types.specs.declared.Side.{Side}
 use Rattle.types.specs.declared.Side.TheVariants.{Sender, Recorder}
 use Rattle.types.specs.declared.Party.{Party}
-use Rattle.types.specs.declared.Fault.{Fault}
+use Rattle.types.specs.Faults.{Fault}
 use Rattle.types.specs.declared.Step.{Step}
 use Rattle.layout.specs.Limits.{power_ok, slot_ok, spins_ok, payload_capacity, total_bytes}
 use Rattle.types.specs.declared.Access.{Access}

@@ -3,22 +3,23 @@
 
 ghost use Rattle.std.specs.Prelude.{◌≡◌, ◌&&◌};
 ghost use Rattle.types.specs.Answers.{told_of};
+ghost use Rattle.types.specs.Refusals.{refused_with};
 
-#[derive(Clone, Copy)]
+#[derive(Clone, Copy, PartialEq, Eq)]
 pub enum Side {
     Sender,
     Recorder,
 }
 
 // NotEmpty is bell NE, on which the recorder sleeps; NotFull is bell NF, on which the sender sleeps.
-#[derive(Clone, Copy)]
+#[derive(Clone, Copy, PartialEq, Eq)]
 pub enum Bell {
     NotEmpty,
     NotFull,
 }
 
 // A flag bit that a party sets.
-#[derive(Clone, Copy)]
+#[derive(Clone, Copy, PartialEq, Eq)]
 pub enum Mark {
     SenderAttached,
     RecorderAttached,
@@ -33,7 +34,7 @@ pub enum Mark {
 // later turns need of earlier ones: from Publish to Wake the length and the tag of the note that a pop took, at a spin
 // how many more follow it, from Again to Wait the epoch, at a last look whether a time-out led to it, in a shutdown
 // whether corruption began it and, from its second raise on, the first error.
-#[derive(Clone, Copy)]
+#[derive(Clone, Copy, PartialEq, Eq)]
 pub enum Step {
     Rest,
     Look,
@@ -62,7 +63,7 @@ pub enum Step {
 
 // What a party keeps from its attach on: its own copy of sizes and options, never read from the region again, and how
 // often it spins before it sleeps.
-#[derive(Clone, Copy)]
+#[derive(Clone, Copy, PartialEq, Eq)]
 pub struct Own {
     pub side: Side,
     pub attached: bool,
@@ -73,7 +74,7 @@ pub struct Own {
 }
 
 // A party's record. The tag is a push's; the length is a push's payload or a pop's buffer.
-#[derive(Clone, Copy)]
+#[derive(Clone, Copy, PartialEq, Eq)]
 pub struct Party {
     pub own: Own,
     pub closed: bool,
@@ -85,7 +86,7 @@ pub struct Party {
 }
 
 // A slot's own header.
-#[derive(Clone, Copy)]
+#[derive(Clone, Copy, PartialEq, Eq)]
 pub struct SlotHead {
     pub length: u16,
     pub tag: u16,
@@ -95,7 +96,7 @@ pub struct SlotHead {
 
 // Document 01's answers. Done carries the length and the tag of the note that a pop took, and zeros for every other
 // call; OutputTooSmall the length needed; Syscall the operation and its error.
-#[derive(Clone, Copy)]
+#[derive(Clone, Copy, PartialEq, Eq)]
 pub enum Answer {
     Done(u16, u16),
     InvalidMagic,
@@ -125,7 +126,7 @@ pub enum Answer {
 
 // The one shared access of a turn, with its word and its value. A slot is named by the counter that it belongs to, a wake
 // by its bell and how many it wakes.
-#[derive(Clone, Copy)]
+#[derive(Clone, Copy, PartialEq, Eq)]
 pub enum Access {
     None,
     LoadCounter(Side),
@@ -141,7 +142,7 @@ pub enum Access {
 }
 
 // What the counters say to a side: used above the capacity; nothing to do for it (full, or empty); something.
-#[derive(Clone, Copy)]
+#[derive(Clone, Copy, PartialEq, Eq)]
 pub enum Room {
     Corrupt,
     Blocked,
@@ -149,7 +150,7 @@ pub enum Room {
 }
 
 // What the flags say to a side: shut down; the other closed; neither.
-#[derive(Clone, Copy)]
+#[derive(Clone, Copy, PartialEq, Eq)]
 pub enum Door {
     Shut,
     Left,
@@ -157,7 +158,7 @@ pub enum Door {
 }
 
 // What a slot's length says to a pop: above the payload capacity; above the buffer's length; neither.
-#[derive(Clone, Copy)]
+#[derive(Clone, Copy, PartialEq, Eq)]
 pub enum Fit {
     Bad,
     Small,
@@ -165,7 +166,7 @@ pub enum Fit {
 }
 
 // How a wait ends: asleep; as a spurious return; as a time-out; failed.
-#[derive(Clone, Copy)]
+#[derive(Clone, Copy, PartialEq, Eq)]
 pub enum Nap {
     Sleeps,
     Returns,
@@ -174,15 +175,47 @@ pub enum Nap {
 }
 
 // Where a turn leads: nowhere; to another step; to rest, with the call's answer.
-#[derive(Clone, Copy)]
+#[derive(Clone, Copy, PartialEq, Eq)]
 pub enum Move {
     Still,
     To(Step),
     End(Answer),
 }
 
+// Why a region is not created, or not joined.
+#[derive(Clone, Copy, PartialEq, Eq)]
+pub enum Refusal {
+    InvalidMagic,
+    UnsupportedVersion,
+    InvalidHeaderSize,
+    InvalidLayout,
+    InvalidCapacity,
+    InvalidSlotSize,
+    WouldBlock,
+    AlreadyAttached,
+    BadCall,
+}
+
+impl From<Refusal> for Answer {
+    ghost from_gives = { λ r a. a ≡ refused_with r };
+
+    fn from(refusal: Refusal) -> Answer {
+        match refusal {
+            Refusal::InvalidMagic => Answer::InvalidMagic,
+            Refusal::UnsupportedVersion => Answer::UnsupportedVersion,
+            Refusal::InvalidHeaderSize => Answer::InvalidHeaderSize,
+            Refusal::InvalidLayout => Answer::InvalidLayout,
+            Refusal::InvalidCapacity => Answer::InvalidCapacity,
+            Refusal::InvalidSlotSize => Answer::InvalidSlotSize,
+            Refusal::WouldBlock => Answer::WouldBlock,
+            Refusal::AlreadyAttached => Answer::AlreadyAttached,
+            Refusal::BadCall => Answer::BadCall,
+        }
+    }
+}
+
 // What is to be known of a step apart from its turn.
-#[derive(Clone, Copy)]
+#[derive(Clone, Copy, PartialEq, Eq)]
 pub enum Stance {
     Resting,
     Sleeping,
@@ -192,43 +225,32 @@ pub enum Stance {
     Moving,
 }
 
-// Whether a failure of the turn's futex call is announced.
-#[derive(Clone, Copy)]
-pub enum Fault {
-    Fine,
-    Error(u16),
-}
-
-// Whom a turn woke.
-#[derive(Clone, Copy)]
-pub enum Woke {
-    Nobody,
-    SleeperOn(Bell),
-}
+// The error with which the turn's futex call is announced to fail, if it is.
+pub type Fault = Option<u16>;
 
 // What a call or a turn gives back.
-#[derive(Clone, Copy)]
+#[derive(Clone, Copy, PartialEq, Eq)]
 pub struct Reply {
     pub party: Party,
     pub answer: Answer,
 }
 
 // The same, and whom the turn woke.
-#[derive(Clone, Copy)]
+#[derive(Clone, Copy, PartialEq, Eq)]
 pub struct Turned {
     pub party: Party,
     pub answer: Answer,
-    pub woke: Woke,
+    pub woke: Option<Bell>,
 }
 
 // Both parties, with their sleeping places.
-#[derive(Clone, Copy)]
+#[derive(Clone, Copy, PartialEq, Eq)]
 pub struct Bench {
     pub sender: Party,
     pub recorder: Party,
 }
 
-#[derive(Clone, Copy)]
+#[derive(Clone, Copy, PartialEq, Eq)]
 pub struct Played {
     pub bench: Bench,
     pub answer: Answer,
@@ -236,7 +258,7 @@ pub struct Played {
 
 // What happens on a bench: a turn, its futex call failing with an error or not; what comes to a sleeper; a begin. A push
 // names whether it blocks, a tag and a length, a pop whether it blocks and its buffer's length.
-#[derive(Clone, Copy)]
+#[derive(Clone, Copy, PartialEq, Eq)]
 pub enum Event {
     Turn(Side),
     Failing(Side, u16),
@@ -249,7 +271,7 @@ pub enum Event {
 }
 
 // An answer as numbers. The operation of a failed futex call stands in the tag's place.
-#[derive(Clone, Copy)]
+#[derive(Clone, Copy, PartialEq, Eq)]
 pub struct Told {
     pub number: u8,
     pub tag: u16,
@@ -268,12 +290,12 @@ fn with_values(number: u8, tag: u16, length: u16, error: u16) -> Told
     }
 }
 
-impl Answer {
-    // Document 01's number of an answer, with the values that it carries.
-    pub fn told(self) -> Told
-        ensures { result ≡ told_of self }
-    {
-        match self {
+// Document 01's number of an answer, with the values that it carries.
+impl From<Answer> for Told {
+    ghost from_gives = { λ a t. t ≡ told_of a };
+
+    fn from(answer: Answer) -> Told {
+        match answer {
             Answer::Done(length, tag) => with_values(0, tag, length, 0),
             Answer::InvalidMagic => with_values(1, 0, 0, 0),
             Answer::UnsupportedVersion => with_values(2, 0, 0, 0),
