@@ -10,7 +10,7 @@ ghost use Rattle.layout.specs.Header.{flags_at};
 ghost use Rattle.layout.specs.Attach.{fresh, unattached, attached, region_checks, attach_answer, attach_reply, attach_leaves};
 
 use header::Header;
-use types::{Answer, Own, Party, Reply, Side, Step};
+use types::{Answer, Own, Party, Reply, Side, Step, Told};
 
 // A party at rest that has named nothing yet.
 fn fresh(own: Own, counter: u64) -> Party
@@ -91,7 +91,7 @@ pub fn attach(region: &mut [u8], side: Side, spins: u16) -> Reply
     ensures leaves { region.new ≡ attach_leaves region.old side spins }
 {
     let answer = attach_answer(region, side, spins);
-    let told = answer.told();
+    let told = Told::from(answer);
     if told.number != 0 {
         let party = unattached(side);
         return Reply { party, answer };

@@ -31,8 +31,8 @@ pub fn play(region: &mut [u8], b: Bench, e: Event, payload: &[u8], buffer: &mut 
     ensures given { buffer.new ≡ played_buffer region.old b payload.now buffer.old e }
 {
     match e {
-        Event::Turn(side) => turn(region, b, side, payload, buffer, Fault::Fine),
-        Event::Failing(side, error) => turn(region, b, side, payload, buffer, Fault::Error(error)),
+        Event::Turn(side) => turn(region, b, side, payload, buffer, None),
+        Event::Failing(side, error) => turn(region, b, side, payload, buffer, Some(error)),
         Event::Spurious(side) => settles::spurious(b, side),
         Event::TimeOut(side) => settles::time_out(b, side),
         Event::Push(blocking, tag, length) => settles::push(b, blocking, tag, length),

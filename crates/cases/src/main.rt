@@ -8,7 +8,7 @@ ghost use Rattle.std.specs.Prelude.{◌≤◌, length};
 mod kinds;
 
 use std::io::Read;
-use types::{Answer, Bench, Party, Played, Side};
+use types::{Answer, Bench, Party, Played, Side, Told};
 
 // No input takes as many reads: the loop ends where the input does.
 const READS: u64 = 0x4000_0000_0000_0000;
@@ -103,7 +103,7 @@ fn tell_all(rt: &(impl Print + Eprint), kind: u8, answer: Answer, both: Bench, b
     let recorder = both.recorder;
     tell(
         rt,
-        sums::told_word(kind, answer.told()),
+        sums::told_word(kind, Told::from(answer)),
         sums::party_word(sender),
         sums::party_word(recorder),
         bytes,

@@ -12,8 +12,8 @@ pub fn error_of(fault: Fault) -> u16
     ensures { result ≡ error_of fault }
 {
     match fault {
-        Fault::Fine => 0,
-        Fault::Error(error) => error,
+        None => 0,
+        Some(error) => error,
     }
 }
 
@@ -22,8 +22,8 @@ fn fault_ok(fault: Fault) -> bool
     ensures { result ≡ fault_ok fault }
 {
     match fault {
-        Fault::Fine => true,
-        Fault::Error(error) => 0 < error,
+        None => true,
+        Some(error) => 0 < error,
     }
 }
 

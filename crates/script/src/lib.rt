@@ -8,7 +8,7 @@ ghost use Rattle.opening.specs.Night.{night_of};
 ghost use Rattle.script.specs.Script.{after, reported};
 
 use records::Record;
-use types::Bench;
+use types::{Bench, Told};
 
 // A push that was begun keeps its record's payload.
 fn keep(payload: &mut [u8], given: &[u8], push: bool, begun: bool)
@@ -38,7 +38,7 @@ pub fn play_record(
     let a = records::asked_in(given);
     let played = asked::play_asked(region, b, a, payload, buffer);
     let answer = played.answer;
-    let told = answer.told();
+    let told = Told::from(answer);
     let kind = words::load8(given, Record::KIND);
     keep(payload, given, kind == 8, told.number == 254);
     reports::report_of(kind, told, buffer, out);

@@ -135,7 +135,7 @@ fn reply_sum(sum: u32, reply: Reply) -> u32
 {
     let party = reply.party;
     let answer = reply.answer;
-    let answered = mix_wide(sum, told_word(0, answer.told()));
+    let answered = mix_wide(sum, told_word(0, Told::from(answer)));
     mix_wide(answered, party_word(party))
 }
 

@@ -4,7 +4,7 @@
 ghost use Rattle.std.specs.Prelude.{◌≡◌, []};
 ghost use Rattle.rules.specs.Turn.{refused, turn_spec, turn_leaves, turn_buffer};
 
-use types::{Answer, Fault, Party, Side, Turned, Woke};
+use types::{Answer, Fault, Party, Side, Turned};
 
 fn refused(p: Party) -> Turned
     ensures { result ≡ refused p }
@@ -12,7 +12,7 @@ fn refused(p: Party) -> Turned
     Turned {
         party: p,
         answer: Answer::BadCall,
-        woke: Woke::Nobody,
+        woke: None,
     }
 }
 

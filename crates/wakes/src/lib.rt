@@ -5,32 +5,32 @@ ghost use Rattle.std.specs.Prelude.{◌≡◌};
 ghost use Rattle.rules.specs.Turn.{woke_with, woke_of};
 ghost use Rattle.rules.specs.Bench.{same_bell, hears, wakened};
 
-use types::{Access, Bell, Party, Side, Step, Woke};
+use types::{Access, Bell, Party, Side, Step};
 
-fn woke_with(failed: bool, bell: Bell) -> Woke
+fn woke_with(failed: bool, bell: Bell) -> Option<Bell>
     ensures { result ≡ woke_with failed bell }
 {
     if failed {
-        return Woke::Nobody;
+        return None;
     }
-    Woke::SleeperOn(bell)
+    Some(bell)
 }
 
 // A wake alone wakes, and not where it fails.
-pub fn woke_of(a: Access, error: u16) -> Woke
+pub fn woke_of(a: Access, error: u16) -> Option<Bell>
     ensures { result ≡ woke_of a error }
 {
     match a {
-        Access::None => Woke::Nobody,
-        Access::LoadCounter(_) => Woke::Nobody,
-        Access::LoadFlags => Woke::Nobody,
-        Access::LoadBell(_) => Woke::Nobody,
-        Access::WriteSlot(_) => Woke::Nobody,
-        Access::ReadSlot(_) => Woke::Nobody,
-        Access::StoreCounter(_, _) => Woke::Nobody,
-        Access::RaiseBell(_) => Woke::Nobody,
-        Access::SetFlag(_) => Woke::Nobody,
-        Access::WaitBell(_, _) => Woke::Nobody,
+        Access::None => None,
+        Access::LoadCounter(_) => None,
+        Access::LoadFlags => None,
+        Access::LoadBell(_) => None,
+        Access::WriteSlot(_) => None,
+        Access::ReadSlot(_) => None,
+        Access::StoreCounter(_, _) => None,
+        Access::RaiseBell(_) => None,
+        Access::SetFlag(_) => None,
+        Access::WaitBell(_, _) => None,
         Access::WakeBell(bell, _) => woke_with(0 < error, bell),
     }
 }
@@ -51,18 +51,18 @@ fn same_bell(a: Bell, b: Bell) -> bool
 }
 
 // A side hears a wake on the bell that it sleeps on.
-fn hears(side: Side, w: Woke) -> bool
+fn hears(side: Side, w: Option<Bell>) -> bool
     ensures { result ≡ hears side w }
 {
     let place = sides::sleep_bell(side);
     match w {
-        Woke::Nobody => false,
-        Woke::SleeperOn(bell) => same_bell(bell, place),
+        None => false,
+        Some(bell) => same_bell(bell, place),
     }
 }
 
 // A wake leads a sleeper to its look, and moves nobody else.
-pub fn wakened(side: Side, p: Party, w: Woke) -> Party
+pub fn wakened(side: Side, p: Party, w: Option<Bell>) -> Party
     ensures { result ≡ wakened side p w }
 {
     let heard = hears(side, w);

@@ -9,5 +9,5 @@ returns c =
     let w = rw q at p.value in
     let r = rw q at p.leaves in
     let b = rw q at p.given in
-    let k = simp (c.load8-kind.ensures, c.told-told.ensures, w) at c.keep.ensures in
-    record { leaves = rw (w, r, b, k); tells = simp (c.load8-kind.ensures, c.told-told.ensures, w, b) at c.report_of.ensures }
+    let k = simp (c.load8-kind.ensures, c.from-told.ensures, w) at c.keep.ensures in
+    record { leaves = rw (w, r, b, k); tells = simp (c.load8-kind.ensures, c.from-told.ensures, w, b) at c.report_of.ensures }
