@@ -1,11 +1,13 @@
 -- The laws of little-endian words, once over the width.
-use Rattle.std.proofs.Common.{◌≡◌, ℕ, zero, suc, ◌+◌, ◌*◌, ◌/◌, ◌%◌, ◌^◌, ◌<◌, ◌≤◌, List, [], ◌∷◌, ◌++◌, length, get_or, sym, refl, ap, ◌∙◌, ap₂, append-nil, add-zero, add_assoc, add-suc, mod-lt, zero-lt-suc, mul_assoc, mul_comm, div-lt_iff_lt-mul, suc-add, one-mul, pow-suc, zero-add, mul-add, div-one, mul_left_comm, arith, get_or-append-add}
+use Rattle.std.proofs.Common.{◌≡◌, ℕ, zero, suc, ◌+◌, ◌-◌, ◌*◌, ◌/◌, ◌%◌, ◌^◌, ◌<◌, ◌≤◌, List, [], ◌∷◌, ◌++◌, length, get_or, add-one, slice_index, sym, refl, ap, ◌∙◌, ap₂, append-nil, add-zero, add_assoc, add-suc, mod-lt, zero-lt-suc, mul_assoc, mul_comm, div-lt_iff_lt-mul, suc-add, one-mul, pow-suc, zero-add, mul-add, div-one, mul_left_comm, arith, get_or-append-add}
 use native.Mathlib.Nat.{pow-zero, one-le-pow, div-div-eq-div-mul}
 use lib.Arith.{mod-mul, digits_div, digits_mod}
+use Rattle.std.specs.Int.{byte_at, bytes_low_first}
+use borrow.Rule.Slice.PartMut.{put_mid}
 use lib.Seq.{sets, length-sets}
 use Rattle.words.specs.Bytes.{part}
 use Rattle.words.specs.Le.{le_at, le_bytes, put_le}
-use Rattle.words.proofs.Sets.{Outside, Apart, outside, sets-other, sets-in, sets-append, sets_over, sets-swap, get_d_part}
+use Rattle.words.proofs.Sets.{Outside, Apart, outside, sets-other, sets-in, sets-append, sets_over, sets-swap, get_d_part, put_mid-sets}
 
 pub length-le_bytes : (w n : ℕ) → length (le_bytes w n) ≡ w
 unfolding le_bytes
@@ -113,3 +115,44 @@ le_at-split zero b s i = rw (pow-zero, one-mul, zero-add, add-zero, zero-add)
 le_at-split (suc a) b s i =
     rw (suc-add, pow-suc, add-suc, ← suc-add, ← le_at-split a b s (suc i), mul-add, mul_comm, mul_assoc, add_assoc)
     (omega (arith, mul_left_comm (256 ^ a) 256 (le_at b s (suc i + a))))
+
+-- a word byte by byte, each from its place
+pub le_at-two : (s : List ℕ) (i : ℕ) → le_at 2 s i ≡ slice_index s i + 256 * slice_index s (i + 1)
+unfolding le_at
+le_at-two s i = rw (← add-one i) (omega arith)
+
+pub le_at-four : (s : List ℕ) (i : ℕ)
+    → le_at 4 s i ≡ (slice_index s i + 256 * slice_index s (i + 1)) + 65536 * (slice_index s (i + 2) + 256 * slice_index s (i + 3))
+le_at-four s i =
+    let e : (i + 2) + 1 ≡ i + 3 = omega arith in
+    sym (le_at-split 2 2 s i) ∙ rw (le_at-two s i, le_at-two s (i + 2), e)
+
+pub le_at-eight : (s : List ℕ) (i : ℕ)
+    → le_at 8 s i ≡ (slice_index s i + 256 * slice_index s (i + 1)) + 65536 * (slice_index s (i + 2) + 256 * slice_index s (i + 3))
+    + 4294967296 * ((slice_index s (i + 4) + 256 * slice_index s (i + 5)) + 65536 * (slice_index s (i + 6) + 256 * slice_index s (i + 7)))
+le_at-eight s i =
+    let e : (i + 4) + 1 ≡ i + 5 = omega arith in
+    let f : (i + 4) + 2 ≡ i + 6 = omega arith in
+    let g : (i + 4) + 3 ≡ i + 7 = omega arith in
+    sym (le_at-split 4 4 s i) ∙ rw (le_at-four s i, le_at-four s (i + 4), e, f, g)
+
+-- the bytes of a word, as the library writes them
+byte-at : (i n : ℕ) → byte_at i n ≡ n / 256 ^ i % 256
+byte-at zero n = rw (pow-zero, div-one)
+byte-at (suc i) n = refl
+
+bytes-from : (i w n : ℕ) → bytes_low_first i w n ≡ le_bytes w (n / 256 ^ i)
+unfolding le_bytes
+bytes-from i zero n = refl
+bytes-from i (suc w) n =
+    let e : n / 256 ^ i / 256 ≡ n / 256 ^ suc i = rw pow-suc (div-div-eq-div-mul n (256 ^ i) 256) in
+    rw (byte-at i n, e, bytes-from (suc i) w n)
+
+pub bytes-of : (w n : ℕ) → bytes_low_first 0 w n ≡ le_bytes w n
+bytes-of w n = bytes-from 0 w n ∙ rw (pow-zero, div-one)
+
+-- a run of bytes lent from i on, with a word written over it
+pub put_le-lent : (w : ℕ) (s : List ℕ) (i n : ℕ) (t : List ℕ) → i + w ≤ length s → t ≡ bytes_low_first 0 w n → put_mid i (i + w - i) s t ≡ put_le w s i n
+unfolding put_le
+put_le-lent w s i n t b e =
+    rw (e, bytes-of w n) (put_mid-sets s i w (le_bytes w n) b (length-le_bytes w n))

@@ -1,5 +1,6 @@
 -- A run of stores, `sets l i vs`: what it changes, what it leaves, and how two runs go together.
 use Rattle.std.proofs.Common.{◌≡◌, ℕ, zero, suc, ◌+◌, ◌-◌, ◌<◌, ◌≤◌, ◌⊎◌, List, [], ◌∷◌, ◌++◌, length, get_or, take, drop, set, sym, refl, ap, ◌∙◌, inl, inr, ⊎_elim, append_assoc, add-zero, add-suc, suc-add, zero-add, arith, length-drop, length-set, length-take, length-take-le, get_or-drop, get_or-set_other, get_or-take, get_or-set_same, drop-set-lt, ext_get_or, drop_at}
+use Rattle.std.proofs.lemmas.List.{drop-drop}
 use native.Mathlib.Decide.{dec_le, dec_lt}
 use native.Mathlib.Nat.{add-sub_cancel_left}
 use borrow.Rule.Slice.PartMut.{put_mid, put_same}
@@ -90,6 +91,12 @@ module _ {A : Type 0} where
   -- the part `&mut l[a..a + n]`, lent to a call that made a run of stores at its start
   pub sets-lent : (l : List A) (a n : ℕ) (vs : List A) → a + n ≤ length l → length vs ≤ n → put_mid a (a + n - a) l (sets (part l a (a + n - a)) 0 vs) ≡ sets l a vs
   sets-lent l a n vs b h = simp add-sub_cancel_left (rw add-zero at (sets-within l a n 0 vs b (rw zero-add h)))
+
+  -- a part that was lent from a on, and comes back as vs
+  pub put_mid-sets : (l : List A) (a n : ℕ) (vs : List A) → a + n ≤ length l → length vs ≡ n → put_mid a (a + n - a) l vs ≡ sets l a vs
+  put_mid-sets l a n vs h e =
+      let k : a + n - a ≡ length vs = omega arith in
+      rw (k, drop-drop, ← append_assoc) (sym (sets-eq vs l a (omega arith)))
 
   -- a run of stores at the start
   pub sets-front : (l vs : List A) → length vs ≤ length l → sets l 0 vs ≡ vs ++ drop (length vs) l

@@ -1,92 +1,132 @@
 // Little-endian words in a lent slice, and words that wrap.
 #![tactic(auto)]
 
-ghost use Rattle.std.specs.Prelude.{◌≡◌, ◌+◌, ◌<◌, ◌≤◌, length};
+ghost use Rattle.std.specs.Prelude.{ℕ, ◌≡◌, ◌+◌, ◌*◌, ◌<◌, ◌≤◌, length};
 ghost use Rattle.words.specs.Le.{le_at, put_le};
 ghost use Rattle.words.specs.Wrap.{minus, next};
 
-fn wide(x: u8) -> u16
-    ensures { (result ≡ x) × (result < 256) }
-{
-    x as u16
+// A word that lies in a slice, its lowest byte first.
+pub trait Word: Copy {
+    // How many bytes it has, and its number.
+    ghost bytes: { ℕ };
+
+    ghost number: { Self → ℕ };
+
+    // The word in the bytes from i on.
+    fn load(s: &[u8], i: usize) -> Self
+        requires { i + bytes ≤ length s.now }
+        ensures { number result ≡ le_at bytes s.now i };
+
+    // Stores the word in the bytes from i on.
+    fn store(self, s: &mut [u8], i: usize)
+        requires { i + bytes ≤ length s.old }
+        ensures { s.new ≡ put_le bytes s.old i (number self) };
 }
 
-pub fn load8(s: &[u8], i: usize) -> u8
-    requires { i + 1 ≤ length s.now }
-    ensures { result ≡ le_at 1 s.now i }
-{
-    s[i]
+impl Word for u8 {
+    ghost bytes = { 1 };
+
+    ghost number = { λ x. x };
+
+    fn load(s: &[u8], i: usize) -> u8 {
+        s[i]
+    }
+
+    fn store(self, s: &mut [u8], i: usize) {
+        s[i] = self;
+    }
 }
 
-pub fn load16(s: &[u8], i: usize) -> u16
-    requires { i + 2 ≤ length s.now }
-    ensures { result ≡ le_at 2 s.now i }
-{
-    wide(s[i]) + 256 * wide(s[i + 1])
+impl Word for u16 {
+    ghost bytes = { 2 };
+
+    ghost number = { λ x. x };
+
+    fn load(s: &[u8], i: usize) -> u16 {
+        u16::from_le_bytes([s[i], s[i + 1]])
+    }
+
+    fn store(self, s: &mut [u8], i: usize) {
+        s[i..i + 2].copy_from_slice(&self.to_le_bytes());
+    }
 }
 
-pub fn load32(s: &[u8], i: usize) -> u32
-    requires { i + 4 ≤ length s.now }
-    ensures { result ≡ le_at 4 s.now i }
-{
-    load16(s, i) as u32 + 0x1_0000 * (load16(s, i + 2) as u32)
+impl Word for u32 {
+    ghost bytes = { 4 };
+
+    ghost number = { λ x. x };
+
+    fn load(s: &[u8], i: usize) -> u32 {
+        u32::from_le_bytes([s[i], s[i + 1], s[i + 2], s[i + 3]])
+    }
+
+    fn store(self, s: &mut [u8], i: usize) {
+        s[i..i + 4].copy_from_slice(&self.to_le_bytes());
+    }
 }
 
-pub fn load64(s: &[u8], i: usize) -> u64
-    requires { i + 8 ≤ length s.now }
-    ensures { result ≡ le_at 8 s.now i }
-{
-    load32(s, i) as u64 + 0x1_0000_0000 * (load32(s, i + 4) as u64)
+impl Word for u64 {
+    ghost bytes = { 8 };
+
+    ghost number = { λ x. x };
+
+    fn load(s: &[u8], i: usize) -> u64 {
+        u64::from_le_bytes([
+            s[i],
+            s[i + 1],
+            s[i + 2],
+            s[i + 3],
+            s[i + 4],
+            s[i + 5],
+            s[i + 6],
+            s[i + 7],
+        ])
+    }
+
+    fn store(self, s: &mut [u8], i: usize) {
+        s[i..i + 8].copy_from_slice(&self.to_le_bytes());
+    }
 }
 
-pub fn store8(s: &mut [u8], i: usize, x: u8)
-    requires { i + 1 ≤ length s.old }
-    ensures { s.new ≡ put_le 1 s.old i x }
-{
-    s[i] = x;
+// A word that wraps: a counter, a bell.
+pub trait Wraps: Copy {
+    ghost bits: { ℕ };
+
+    ghost number: { Self → ℕ };
+
+    // The next one.
+    fn next(self) -> Self
+        ensures { number result ≡ next bits (number self) };
+
+    // How far it lies ahead of another.
+    fn ahead_of(self, other: Self) -> Self
+        ensures { number result ≡ minus bits (number self) (number other) };
 }
 
-pub fn store16(s: &mut [u8], i: usize, x: u16)
-    requires { i + 2 ≤ length s.old }
-    ensures { s.new ≡ put_le 2 s.old i x }
-{
-    s[i] = (x % 256) as u8;
-    s[i + 1] = (x / 256) as u8;
+impl Wraps for u64 {
+    ghost bits = { 64 };
+
+    ghost number = { λ x. x };
+
+    fn next(self) -> u64 {
+        self.wrapping_add(1)
+    }
+
+    fn ahead_of(self, other: u64) -> u64 {
+        self.wrapping_sub(other)
+    }
 }
 
-pub fn store32(s: &mut [u8], i: usize, x: u32)
-    requires { i + 4 ≤ length s.old }
-    ensures { s.new ≡ put_le 4 s.old i x }
-{
-    store16(s, i, (x % 0x1_0000) as u16);
-    store16(s, i + 2, (x / 0x1_0000) as u16);
-}
+impl Wraps for u32 {
+    ghost bits = { 32 };
 
-pub fn store64(s: &mut [u8], i: usize, x: u64)
-    requires { i + 8 ≤ length s.old }
-    ensures { s.new ≡ put_le 8 s.old i x }
-{
-    store32(s, i, (x % 0x1_0000_0000) as u32);
-    store32(s, i + 4, (x / 0x1_0000_0000) as u32);
-}
+    ghost number = { λ x. x };
 
-// The next counter, which wraps at 2^64.
-pub fn next64(a: u64) -> u64
-    ensures { result ≡ next 64 a }
-{
-    std::num::wrapping_add_u64(a, 1)
-}
+    fn next(self) -> u32 {
+        self.wrapping_add(1)
+    }
 
-// How far a lies ahead of b, which wraps at 2^64.
-pub fn ahead64(a: u64, b: u64) -> u64
-    ensures { result ≡ minus 64 a b }
-{
-    std::num::wrapping_sub_u64(a, b)
-}
-
-// A bell raised once, which wraps at 2^32.
-pub fn raise32(a: u32) -> u32
-    ensures { result ≡ next 32 a }
-{
-    std::num::wrapping_add_u32(a, 1)
+    fn ahead_of(self, other: u32) -> u32 {
+        self.wrapping_sub(other)
+    }
 }
