@@ -3,8 +3,11 @@ use mathlib.Core.Path.{refl, sym, ◌∙◌}
 use Rattle.one_answer.specs.OneAnswer.{OneAnswer}
 use Rattle.types.proofs as code
 
-pub answer-told : OneAnswer code.Answer.told.Kinds.ps code.Answer.told.Kinds.r code.Answer.told.Reads.Post
-answer-told κs a z z' ws ws' p q = (p ∙ sym q, refl)
+pub told-from-answer : OneAnswer code.ToldFromAnswer.from.Kinds.ps code.ToldFromAnswer.from.Kinds.r code.ToldFromAnswer.from.Reads.Post
+told-from-answer κs a z z' ws ws' p q = (p ∙ sym q, refl)
+
+pub answer-from-refusal : OneAnswer code.AnswerFromRefusal.from.Kinds.ps code.AnswerFromRefusal.from.Kinds.r code.AnswerFromRefusal.from.Reads.Post
+answer-from-refusal κs a z z' ws ws' p q = (p ∙ sym q, refl)
 
 pub both : OneAnswer code.both.Kinds.ps code.both.Kinds.r code.both.Reads.Post
 both κs a z z' ws ws' p q = (p ∙ sym q, refl)

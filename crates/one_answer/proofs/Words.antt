@@ -1,37 +1,40 @@
--- One answer: crate `words`.
+-- One answer: crate `words`, at every width.
 use mathlib.Core.Path.{refl, sym, ◌∙◌, ap}
 use Rattle.one_answer.specs.OneAnswer.{OneAnswer}
 use Rattle.words.proofs as code
 
-pub load8 : OneAnswer code.load8.Kinds.ps code.load8.Kinds.r code.load8.Reads.Post
-load8 κs a z z' ws ws' p q = (p ∙ sym q, refl)
+pub u8-load : OneAnswer code.U8Word.load.Kinds.ps code.U8Word.load.Kinds.r code.U8Word.load.Reads.Post
+u8-load κs a z z' ws ws' p q = (p ∙ sym q, refl)
 
-pub load16 : OneAnswer code.load16.Kinds.ps code.load16.Kinds.r code.load16.Reads.Post
-load16 κs a z z' ws ws' p q = (p ∙ sym q, refl)
+pub u16-load : OneAnswer code.U16Word.load.Kinds.ps code.U16Word.load.Kinds.r code.U16Word.load.Reads.Post
+u16-load κs a z z' ws ws' p q = (p ∙ sym q, refl)
 
-pub load32 : OneAnswer code.load32.Kinds.ps code.load32.Kinds.r code.load32.Reads.Post
-load32 κs a z z' ws ws' p q = (p ∙ sym q, refl)
+pub u32-load : OneAnswer code.U32Word.load.Kinds.ps code.U32Word.load.Kinds.r code.U32Word.load.Reads.Post
+u32-load κs a z z' ws ws' p q = (p ∙ sym q, refl)
 
-pub load64 : OneAnswer code.load64.Kinds.ps code.load64.Kinds.r code.load64.Reads.Post
-load64 κs a z z' ws ws' p q = (p ∙ sym q, refl)
+pub u64-load : OneAnswer code.U64Word.load.Kinds.ps code.U64Word.load.Kinds.r code.U64Word.load.Reads.Post
+u64-load κs a z z' ws ws' p q = (p ∙ sym q, refl)
 
-pub store8 : OneAnswer code.store8.Kinds.ps code.store8.Kinds.r code.store8.Reads.Post
-store8 κs a z z' ws ws' p q = (refl, ap (λ v. (v, (tt, (tt, tt)))) (p ∙ sym q))
+pub u8-store : OneAnswer code.U8Word.store.Kinds.ps code.U8Word.store.Kinds.r code.U8Word.store.Reads.Post
+u8-store κs a z z' ws ws' p q = (refl, ap (λ v. (tt, (v, (tt, tt)))) (p ∙ sym q))
 
-pub store16 : OneAnswer code.store16.Kinds.ps code.store16.Kinds.r code.store16.Reads.Post
-store16 κs a z z' ws ws' p q = (refl, ap (λ v. (v, (tt, (tt, tt)))) (p ∙ sym q))
+pub u16-store : OneAnswer code.U16Word.store.Kinds.ps code.U16Word.store.Kinds.r code.U16Word.store.Reads.Post
+u16-store κs a z z' ws ws' p q = (refl, ap (λ v. (tt, (v, (tt, tt)))) (p ∙ sym q))
 
-pub store32 : OneAnswer code.store32.Kinds.ps code.store32.Kinds.r code.store32.Reads.Post
-store32 κs a z z' ws ws' p q = (refl, ap (λ v. (v, (tt, (tt, tt)))) (p ∙ sym q))
+pub u32-store : OneAnswer code.U32Word.store.Kinds.ps code.U32Word.store.Kinds.r code.U32Word.store.Reads.Post
+u32-store κs a z z' ws ws' p q = (refl, ap (λ v. (tt, (v, (tt, tt)))) (p ∙ sym q))
 
-pub store64 : OneAnswer code.store64.Kinds.ps code.store64.Kinds.r code.store64.Reads.Post
-store64 κs a z z' ws ws' p q = (refl, ap (λ v. (v, (tt, (tt, tt)))) (p ∙ sym q))
+pub u64-store : OneAnswer code.U64Word.store.Kinds.ps code.U64Word.store.Kinds.r code.U64Word.store.Reads.Post
+u64-store κs a z z' ws ws' p q = (refl, ap (λ v. (tt, (v, (tt, tt)))) (p ∙ sym q))
 
-pub next64 : OneAnswer code.next64.Kinds.ps code.next64.Kinds.r code.next64.Reads.Post
-next64 κs a z z' ws ws' p q = (p ∙ sym q, refl)
+pub u32-next : OneAnswer code.U32Wraps.next.Kinds.ps code.U32Wraps.next.Kinds.r code.U32Wraps.next.Reads.Post
+u32-next κs a z z' ws ws' p q = (p ∙ sym q, refl)
 
-pub ahead64 : OneAnswer code.ahead64.Kinds.ps code.ahead64.Kinds.r code.ahead64.Reads.Post
-ahead64 κs a z z' ws ws' p q = (p ∙ sym q, refl)
+pub u32-ahead-of : OneAnswer code.U32Wraps.ahead_of.Kinds.ps code.U32Wraps.ahead_of.Kinds.r code.U32Wraps.ahead_of.Reads.Post
+u32-ahead-of κs a z z' ws ws' p q = (p ∙ sym q, refl)
 
-pub raise32 : OneAnswer code.raise32.Kinds.ps code.raise32.Kinds.r code.raise32.Reads.Post
-raise32 κs a z z' ws ws' p q = (p ∙ sym q, refl)
+pub u64-next : OneAnswer code.U64Wraps.next.Kinds.ps code.U64Wraps.next.Kinds.r code.U64Wraps.next.Reads.Post
+u64-next κs a z z' ws ws' p q = (p ∙ sym q, refl)
+
+pub u64-ahead-of : OneAnswer code.U64Wraps.ahead_of.Kinds.ps code.U64Wraps.ahead_of.Kinds.r code.U64Wraps.ahead_of.Reads.Post
+u64-ahead-of κs a z z' ws ws' p q = (p ∙ sym q, refl)
