@@ -10,9 +10,7 @@ pub fn copy_in(dst: &mut [u8], at: usize, src: &[u8])
     requires { at + length src.now ≤ length dst.old }
     ensures { dst.new ≡ sets dst.old at src.now }
 {
-    for k in 0..src.len() {
-        dst[at + k] = src[k];
-    }
+    dst[at..at + src.len()].copy_from_slice(src);
 }
 
 // Copies the count bytes of src from at on to the start of dst.
@@ -20,7 +18,7 @@ pub fn copy_out(src: &[u8], at: usize, count: usize, dst: &mut [u8])
     requires { (at + count ≤ length src.now) × (count ≤ length dst.old) }
     ensures { dst.new ≡ part src.now at count ++ drop count dst.old }
 {
-    copy_in(dst, 0, &src[at..at + count]);
+    dst[..count].copy_from_slice(&src[at..at + count]);
 }
 
 // Moves the count bytes from at on to the start.
@@ -28,9 +26,7 @@ pub fn shift(s: &mut [u8], at: usize, count: usize)
     requires { at + count ≤ length s.old }
     ensures { s.new ≡ sets s.old 0 (part s.old at count) }
 {
-    for k in 0..count {
-        s[k] = s[at + k];
-    }
+    s.copy_within(at..at + count, 0);
 }
 
 // Zeros over the first count bytes.
@@ -38,7 +34,5 @@ pub fn clear(s: &mut [u8], count: usize)
     requires { count ≤ length s.old }
     ensures { s.new ≡ sets s.old 0 (replicate count 0) }
 {
-    for k in 0..count {
-        s[k] = 0;
-    }
+    s[..count].fill(0);
 }
