@@ -1,15 +1,13 @@
-use mathlib.Core.Path.{sym, ◌∙◌}
-use mathlib.Core.Bool.{true, false}
-use Rattle.scans.proofs.Zeros.{odd-first}
+use Rattle.std.proofs.Common.{eqb, sym, ◌∙◌, rules, tests}
+use native.Mathlib.Nat.{add-sub_cancel_left}
+use Rattle.std.proofs.lemmas.Iterator.{YieldsList-from_slice}
+use Rattle.std.proofs.lemmas.Iterator.Search.{all_from_yields_List}
+use Rattle.words.specs.Bytes.{part}
+use Rattle.scans.proofs.Parts.{zeros-part}
 use Rattle.scans.proofs.all_zero.Goals as goal
-
-pub returns-then-not-zero_bytes : goal.returns-then-not-zero_bytes
-returns-then-not-zero_bytes c =
-    let a = c.args in
-    sym (odd-first 8 a.s.now a.count a.at false (sym c.zero_bytes.ensures ∙ c.if-not-zero_bytes.true))
 
 pub returns : goal.returns
 returns c =
     let a = c.args in
-    let odd = sym c.zero_bytes.ensures ∙ c.if-not-zero_bytes.false in
-    c.zero_words.ensures ∙ sym (odd-first 8 a.s.now a.count a.at true odd)
+    all_from_yields_List (λ b. eqb b 0) _ _ _ c.all.ensures.ran (YieldsList-from_slice (part a.s.now a.at a.count) (search (rules, add-sub_cancel_left))) (λ x b q k. search (rules, tests))
+    ∙ sym (zeros-part a.s.now a.count a.at c.requires)
