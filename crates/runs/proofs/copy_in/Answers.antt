@@ -1,5 +1,6 @@
-use Rattle.runs.proofs.Parts.{sets-part}
+use Rattle.std.proofs.Common.{refl}
+use Rattle.words.proofs.Sets.{put_mid-sets}
 use Rattle.runs.proofs.copy_in.Goals as goal
 
 pub returns : goal.returns
-returns c = rw c.copy_from_slice.ensures.after (sets-part c.args.dst.now c.args.at c.args.src.now c.requires)
+returns c = rw c.copy_from_slice.ensures.after (put_mid-sets c.args.dst.now c.args.at _ c.args.src.now c.requires refl)
