@@ -27,27 +27,21 @@ impl Limits {
     pub const SLOT_HEAD_BYTES: u32 = 8;
 }
 
+#[tactic(auto, unfolding(layout::specs::Limits::power_ok))]
 pub fn power_ok(power: u8) -> bool
     ensures { result ≡ power_ok power }
 {
-    if power < Limits::LEAST_POWER {
-        return false;
-    }
-    power <= Limits::MOST_POWER
+    (Limits::LEAST_POWER..=Limits::MOST_POWER).contains(&power)
 }
 
+#[tactic(auto, unfolding(layout::specs::Limits::slot_ok))]
 pub fn slot_ok(slot: u32) -> bool
     ensures { result ≡ slot_ok slot }
 {
-    if slot < Limits::LEAST_SLOT {
-        return false;
-    }
-    if Limits::MOST_SLOT < slot {
-        return false;
-    }
-    slot % Limits::SLOT_STEP == 0
+    (Limits::LEAST_SLOT..=Limits::MOST_SLOT).contains(&slot) && slot % Limits::SLOT_STEP == 0
 }
 
+#[tactic(auto, unfolding(layout::specs::Limits::spins_ok))]
 pub fn spins_ok(spins: u16) -> bool
     ensures { result ≡ spins_ok spins }
 {
@@ -55,31 +49,33 @@ pub fn spins_ok(spins: u16) -> bool
 }
 
 // A power above the limit has no slots.
+#[tactic(auto, unfolding(layout::specs::Limits::capacity))]
 pub fn capacity(power: u8) -> u64
     ensures { result ≡ capacity power }
 {
-    if Limits::MOST_POWER < power {
-        return 0;
+    if power <= Limits::MOST_POWER {
+        1 << power
+    } else {
+        0
     }
-    1u64 << power
 }
 
 // A slot size below its own header has no payload.
+#[tactic(auto, unfolding(layout::specs::Limits::payload_capacity))]
 pub fn payload_capacity(slot: u32) -> u32
     ensures { result ≡ payload_capacity slot }
 {
-    if slot < Limits::SLOT_HEAD_BYTES {
-        return 0;
-    }
-    slot - Limits::SLOT_HEAD_BYTES
+    slot.saturating_sub(Limits::SLOT_HEAD_BYTES)
 }
 
+#[tactic(auto, unfolding(layout::specs::Limits::ring_bytes))]
 pub fn ring_bytes(power: u8, slot: u32) -> u64
     ensures { result ≡ ring_bytes power slot }
 {
-    capacity(power) * (slot as u64)
+    capacity(power) * u64::from(slot)
 }
 
+#[tactic(auto, unfolding(layout::specs::Limits::total_bytes))]
 pub fn total_bytes(power: u8, slot: u32) -> u64
     ensures { result ≡ total_bytes power slot }
 {
@@ -87,10 +83,11 @@ pub fn total_bytes(power: u8, slot: u32) -> u64
 }
 
 // Where the slot of a counter begins.
+#[tactic(auto, unfolding(layout::specs::Slots::slot_at))]
 pub fn slot_at(power: u8, slot: u32, count: u64) -> usize
     requires { power_ok power ≡ true }
     ensures { result ≡ slot_at power slot count }
 {
     let place = count % capacity(power);
-    (Limits::HEADER_BYTES + place * (slot as u64)) as usize
+    (Limits::HEADER_BYTES + place * u64::from(slot)) as usize
 }

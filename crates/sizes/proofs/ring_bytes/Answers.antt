@@ -5,8 +5,4 @@ use Rattle.sizes.proofs.ring_bytes.Goals as goal
 
 pub overflow_mul-result : goal.overflow_mul-result
 unfolding ring_bytes
-overflow_mul-result c = rw c.capacity.ensures (omega (arith, ring-room c.args.power c.args.slot))
-
-pub returns : goal.returns
-unfolding ring_bytes
-returns c = rw c.capacity.ensures
+overflow_mul-result c = rw (c.capacity.ensures, c.from.ensures) (omega (arith, ring-room c.args.power c.args.slot))
