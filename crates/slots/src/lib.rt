@@ -7,6 +7,7 @@ ghost use Rattle.layout.specs.Limits.{slot_head_bytes};
 ghost use Rattle.layout.specs.Slots.{head_word, head_of, buffer_put};
 
 use types::SlotHead;
+use words::Word;
 
 // Where the fields of a slot lie, from its start on.
 #[derive(Clone, Copy)]
@@ -24,46 +25,32 @@ impl Slot {
     pub const PAYLOAD: usize = 8;
 }
 
-// The whole header as one word.
-pub fn read_head(slot: &[u8]) -> u64
-    requires { slot_head_bytes ≤ length slot.now }
-    ensures { result ≡ head_word slot.now }
-{
-    words::load64(slot, 0)
-}
-
-// The header of the slot of size bytes at at.
+// The header of the slot of size bytes at at, as one word.
 pub fn head_at(region: &[u8], at: usize, size: usize) -> u64
     requires { (slot_head_bytes ≤ size) × (at + size ≤ length region.now) }
     ensures { result ≡ head_word (part region.now at size) }
 {
-    read_head(&region[at..at + size])
+    u64::load(&region[at..at + size], 0)
 }
 
 // Length, tag, slot flags and zero word of a header.
 pub fn head_of(word: u64) -> SlotHead
     ensures { result ≡ head_of word }
 {
+    let bytes = word.to_le_bytes();
     SlotHead {
-        length: (word % 0x1_0000) as u16,
-        tag: (word / 0x1_0000 % 0x1_0000) as u16,
-        flags: (word / 0x1_0000_0000 % 0x1_0000) as u16,
-        zero: (word / 0x1_0000_0000_0000 % 0x1_0000) as u16,
+        length: u16::load(&bytes, Slot::LENGTH),
+        tag: u16::load(&bytes, Slot::TAG),
+        flags: u16::load(&bytes, Slot::FLAGS),
+        zero: u16::load(&bytes, Slot::ZERO),
     }
 }
 
-// Copies the first count bytes of the payload to the buffer's start.
-pub fn read_payload(slot: &[u8], count: usize, buffer: &mut [u8])
-    requires { (slot_head_bytes + count ≤ length slot.now) × (count ≤ length buffer.old) }
-    ensures { buffer.new ≡ buffer_put buffer.old slot.now count }
-{
-    runs::copy_out(slot, Slot::PAYLOAD, count, buffer);
-}
-
-// The same of the slot of size bytes at at.
+// Copies the first count bytes of the payload of the slot of size bytes at at to the buffer's start.
+#[tactic(auto, unfolding(layout::specs::Slots::buffer_put))]
 pub fn payload_at(region: &[u8], at: usize, size: usize, count: usize, buffer: &mut [u8])
     requires { (slot_head_bytes + count ≤ size) × (at + size ≤ length region.now) × (count ≤ length buffer.old) }
     ensures { buffer.new ≡ buffer_put buffer.old (part region.now at size) count }
 {
-    read_payload(&region[at..at + size], count, buffer);
+    runs::copy_out(&region[at..at + size], Slot::PAYLOAD, count, buffer);
 }
