@@ -1,11 +1,10 @@
-// The header of a region: where its fields lie, what its flags are worth, and functions that read them.
+// The header of a region: where its fields lie, what its flags are worth, and functions that read and set a flag.
 #![tactic(auto)]
 
-ghost use Rattle.std.specs.Prelude.{◌≡◌, ◌+◌, ◌≤◌, length};
-ghost use Rattle.words.specs.Le.{le_at};
+ghost use Rattle.std.specs.Prelude.{◌≡◌, ◌+◌, ◌<◌, ◌≤◌};
 ghost use Rattle.layout.specs.Limits.{header_bytes};
 ghost use Rattle.layout.specs.Flags.{initialised, not_full_on, worth, bit_on, set_bit, attach_mark, close_mark};
-ghost use Rattle.layout.specs.Header.{major_at, minor_at, header_size_at, total_size_at, ring_offset_at, ring_bytes_at, arena_offset_at, arena_bytes_at, power_at, slot_size_at, flags_at, counter_at, bell_at};
+ghost use Rattle.layout.specs.Header.{counter_at, bell_at};
 
 use types::{Bell, Mark, Side};
 
@@ -71,91 +70,14 @@ impl Header {
     // The flags from this bit on are zero.
     pub const RESERVED_FROM: u32 = 0x80;
 
-    pub fn major(region: &[u8]) -> u16
-        requires { header_bytes ≤ length region.now }
-        ensures { result ≡ le_at 2 region.now major_at }
-    {
-        words::load16(region, Header::MAJOR)
-    }
-
-    pub fn minor(region: &[u8]) -> u16
-        requires { header_bytes ≤ length region.now }
-        ensures { result ≡ le_at 2 region.now minor_at }
-    {
-        words::load16(region, Header::MINOR)
-    }
-
-    pub fn header_size(region: &[u8]) -> u32
-        requires { header_bytes ≤ length region.now }
-        ensures { result ≡ le_at 4 region.now header_size_at }
-    {
-        words::load32(region, Header::HEADER_SIZE)
-    }
-
-    pub fn total_size(region: &[u8]) -> u64
-        requires { header_bytes ≤ length region.now }
-        ensures { result ≡ le_at 8 region.now total_size_at }
-    {
-        words::load64(region, Header::TOTAL_SIZE)
-    }
-
-    pub fn ring_offset(region: &[u8]) -> u64
-        requires { header_bytes ≤ length region.now }
-        ensures { result ≡ le_at 8 region.now ring_offset_at }
-    {
-        words::load64(region, Header::RING_OFFSET)
-    }
-
-    pub fn ring_bytes(region: &[u8]) -> u64
-        requires { header_bytes ≤ length region.now }
-        ensures { result ≡ le_at 8 region.now ring_bytes_at }
-    {
-        words::load64(region, Header::RING_BYTES)
-    }
-
-    pub fn arena_offset(region: &[u8]) -> u64
-        requires { header_bytes ≤ length region.now }
-        ensures { result ≡ le_at 8 region.now arena_offset_at }
-    {
-        words::load64(region, Header::ARENA_OFFSET)
-    }
-
-    pub fn arena_bytes(region: &[u8]) -> u64
-        requires { header_bytes ≤ length region.now }
-        ensures { result ≡ le_at 8 region.now arena_bytes_at }
-    {
-        words::load64(region, Header::ARENA_BYTES)
-    }
-
-    pub fn power(region: &[u8]) -> u8
-        requires { header_bytes ≤ length region.now }
-        ensures { result ≡ le_at 1 region.now power_at }
-    {
-        words::load8(region, Header::POWER)
-    }
-
-    pub fn slot_size(region: &[u8]) -> u32
-        requires { header_bytes ≤ length region.now }
-        ensures { result ≡ le_at 4 region.now slot_size_at }
-    {
-        words::load32(region, Header::SLOT_SIZE)
-    }
-
-    pub fn flags(region: &[u8]) -> u32
-        requires { header_bytes ≤ length region.now }
-        ensures { result ≡ le_at 4 region.now flags_at }
-    {
-        words::load32(region, Header::FLAGS)
-    }
-
     // Where a side's own counter lies.
     pub fn counter_at(side: Side) -> usize
         ensures is { result ≡ counter_at side }
         ensures within { result + 8 ≤ header_bytes }
     {
         match side {
-            Side::Sender => Header::HEAD,
-            Side::Recorder => Header::TAIL,
+            Side::Sender => Self::HEAD,
+            Side::Recorder => Self::TAIL,
         }
     }
 
@@ -164,63 +86,57 @@ impl Header {
         ensures within { result + 4 ≤ header_bytes }
     {
         match b {
-            Bell::NotEmpty => Header::NOT_EMPTY,
-            Bell::NotFull => Header::NOT_FULL,
+            Bell::NotEmpty => Self::NOT_EMPTY,
+            Bell::NotFull => Self::NOT_FULL,
         }
     }
 
-    pub fn counter(region: &[u8], side: Side) -> u64
-        requires { header_bytes ≤ length region.now }
-        ensures { result ≡ le_at 8 region.now (counter_at side) }
+    fn worth(mark: Mark) -> u32
+        ensures { result ≡ worth mark }
     {
-        words::load64(region, Header::counter_at(side))
+        match mark {
+            Mark::SenderAttached => Self::SENDER_ATTACHED,
+            Mark::RecorderAttached => Self::RECORDER_ATTACHED,
+            Mark::SenderClosed => Self::SENDER_CLOSED,
+            Mark::RecorderClosed => Self::RECORDER_CLOSED,
+            Mark::Shutdown => Self::SHUTDOWN,
+        }
     }
 
-    pub fn bell(region: &[u8], b: Bell) -> u32
-        requires { header_bytes ≤ length region.now }
-        ensures { result ≡ le_at 4 region.now (bell_at b) }
+    // Whether the bit of that worth is set.
+    fn is_on(flags: u32, bit: u32) -> bool
+        requires { 0 < bit }
+        ensures { result ≡ bit_on bit flags }
     {
-        words::load32(region, Header::bell_at(b))
+        flags / bit % 2 == 1
     }
 
     pub fn initialised(flags: u32) -> bool
         ensures { result ≡ bit_on initialised flags }
     {
-        flags / Header::INITIALISED % 2 == 1
+        Self::is_on(flags, Self::INITIALISED)
     }
 
     pub fn notfull_on(flags: u32) -> bool
         ensures { result ≡ bit_on not_full_on flags }
     {
-        flags / Header::NOT_FULL_ON % 2 == 1
+        Self::is_on(flags, Self::NOT_FULL_ON)
     }
 
     pub fn has(flags: u32, mark: Mark) -> bool
         ensures { result ≡ bit_on (worth mark) flags }
     {
-        match mark {
-            Mark::SenderAttached => flags / Header::SENDER_ATTACHED % 2 == 1,
-            Mark::RecorderAttached => flags / Header::RECORDER_ATTACHED % 2 == 1,
-            Mark::SenderClosed => flags / Header::SENDER_CLOSED % 2 == 1,
-            Mark::RecorderClosed => flags / Header::RECORDER_CLOSED % 2 == 1,
-            Mark::Shutdown => flags / Header::SHUTDOWN % 2 == 1,
-        }
+        Self::is_on(flags, Self::worth(mark))
     }
 
     // The flags with that bit set. A bit that is clear has room for its worth.
     pub fn with_mark(flags: u32, mark: Mark) -> u32
         ensures { result ≡ set_bit (worth mark) flags }
     {
-        let on = Header::has(flags, mark);
-        if on {
-            return flags;
-        }
-        match mark {
-            Mark::SenderAttached => flags + Header::SENDER_ATTACHED,
-            Mark::RecorderAttached => flags + Header::RECORDER_ATTACHED,
-            Mark::SenderClosed => flags + Header::SENDER_CLOSED,
-            Mark::RecorderClosed => flags + Header::RECORDER_CLOSED,
-            Mark::Shutdown => flags + Header::SHUTDOWN,
+        if Self::has(flags, mark) {
+            flags
+        } else {
+            flags + Self::worth(mark)
         }
     }
 
