@@ -1,9 +1,10 @@
 // The declared types: a party and what it is told. One party struct and one step enum serve both sides.
 #![tactic(auto)]
 
-ghost use Rattle.std.specs.Prelude.{◌≡◌, ◌&&◌};
+ghost use Rattle.std.specs.Prelude.{◌≡◌, ◌&&◌, Ok, Err};
 ghost use Rattle.types.specs.Answers.{told_of};
-ghost use Rattle.types.specs.Refusals.{refused_with};
+ghost use Rattle.types.specs.Pick.{pick};
+ghost use Rattle.types.specs.Refusals.{refused_with, answered};
 
 #[derive(Clone, Copy, PartialEq, Eq)]
 pub enum Side {
@@ -210,6 +211,27 @@ impl From<Refusal> for Answer {
             Refusal::WouldBlock => Answer::WouldBlock,
             Refusal::AlreadyAttached => Answer::AlreadyAttached,
             Refusal::BadCall => Answer::BadCall,
+        }
+    }
+}
+
+impl Refusal {
+    // A test that must hold, and the refusal where it does not.
+    pub fn unless(self, holds: bool) -> Result<(), Refusal>
+        ensures { result ≡ pick holds (Ok tt) (Err self) }
+    {
+        if holds { Ok(()) } else { Err(self) }
+    }
+}
+
+// A call that is done has no values to give.
+impl From<Result<(), Refusal>> for Answer {
+    ghost from_gives = { λ r a. a ≡ answered r };
+
+    fn from(outcome: Result<(), Refusal>) -> Answer {
+        match outcome {
+            Ok(()) => Answer::Done(0, 0),
+            Err(refusal) => refusal.into(),
         }
     }
 }
