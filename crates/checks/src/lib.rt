@@ -1,50 +1,39 @@
 // The checks of a region that a party would join, in their order.
 #![tactic(auto)]
 
-ghost use Rattle.std.specs.Prelude.{◌≡◌, ◌&&◌, ◌+◌, ◌≤◌, eqb, length};
+ghost use Rattle.std.specs.Prelude.{◌≡◌, ◌≤◌, length};
 ghost use Rattle.types.specs.Answers.{first_of};
+ghost use Rattle.types.specs.Refusals.{answered};
 ghost use Rattle.layout.specs.Limits.{header_bytes};
 ghost use Rattle.layout.specs.Header.{reserved, all_zero};
-ghost use Rattle.layout.specs.Attach.{magic_ok, version_ok, sizes_ok, flag_checks, ring_checks, region_checks};
+ghost use Rattle.layout.specs.Attach.{version_ok, sizes_ok, flag_checks, ring_checks, region_checks};
 
 use header::Header;
 use sizes::Limits;
-use types::{Answer, Side};
+use types::{Refusal, Side};
+use words::Word;
 
-fn magic_ok(region: &[u8]) -> bool
-    requires { header_bytes ≤ length region.now }
-    ensures { result ≡ magic_ok region.now }
-{
-    scans::same_bytes(region, 0, &Header::MAGIC)
-}
-
+#[tactic(auto, unfolding(layout::specs::Attach::version_ok))]
 fn version_ok(region: &[u8]) -> bool
     requires { header_bytes ≤ length region.now }
     ensures { result ≡ version_ok region.now }
 {
-    types::both(Header::major(region) == 0, Header::minor(region) == 1)
+    u16::load(region, Header::MAJOR) == 0 && u16::load(region, Header::MINOR) == 1
 }
 
-// The total is the header and the ring. The header is taken off the total, since the sum might wrap.
-fn adds_up(total: u64, ring: u64) -> bool
-    ensures { result ≡ eqb total (header_bytes + ring) }
-{
-    if total < Limits::HEADER_BYTES {
-        return false;
-    }
-    total - Limits::HEADER_BYTES == ring
-}
-
+// The header is taken off the total size, since the sum of header and ring might wrap.
+#[tactic(auto, unfolding(layout::specs::Attach::sizes_ok))]
 fn sizes_ok(region: &[u8]) -> bool
     requires { header_bytes ≤ length region.now }
     ensures { result ≡ sizes_ok region.now }
 {
-    let total = Header::total_size(region);
-    let whole = adds_up(total, Header::ring_bytes(region));
-    let arena = types::both(Header::arena_bytes(region) == 0, whole);
-    let offset = types::both(Header::arena_offset(region) == 0, arena);
-    let ring = types::both(Header::ring_offset(region) == Limits::HEADER_BYTES, offset);
-    types::both(total == region.len() as u64, ring)
+    let total = u64::load(region, Header::TOTAL_SIZE);
+    let ring = u64::load(region, Header::RING_BYTES);
+    total == region.len() as u64
+        && u64::load(region, Header::RING_OFFSET) == Limits::HEADER_BYTES
+        && u64::load(region, Header::ARENA_OFFSET) == 0
+        && u64::load(region, Header::ARENA_BYTES) == 0
+        && total.checked_sub(Limits::HEADER_BYTES) == Some(ring)
 }
 
 // The header's bytes that are in no field.
@@ -52,73 +41,50 @@ fn reserved_ok(region: &[u8]) -> bool
     requires { header_bytes ≤ length region.now }
     ensures { result ≡ all_zero region.now reserved }
 {
-    let bells = types::both(
-        scans::all_zero(region, 60, 0x104),
-        scans::all_zero(region, 60, 0x144),
-    );
-    let tail = types::both(scans::all_zero(region, 56, 0x0C8), bells);
-    let head = types::both(scans::all_zero(region, 56, 0x088), tail);
-    let error = types::both(scans::all_zero(region, 36, 0x05C), head);
-    let flags = types::both(scans::all_zero(region, 4, 0x04C), error);
-    let slot = types::both(scans::all_zero(region, 4, 0x044), flags);
-    types::both(scans::all_zero(region, 7, 0x039), slot)
+    scans::all_zero(region, 7, 0x039)
+        && scans::all_zero(region, 4, 0x044)
+        && scans::all_zero(region, 4, 0x04C)
+        && scans::all_zero(region, 36, 0x05C)
+        && scans::all_zero(region, 56, 0x088)
+        && scans::all_zero(region, 56, 0x0C8)
+        && scans::all_zero(region, 60, 0x104)
+        && scans::all_zero(region, 60, 0x144)
 }
 
-fn check_flags(flags: u32, side: Side) -> Answer
-    ensures { result ≡ first_of (flag_checks flags side) }
+#[tactic(auto, unfolding(layout::specs::Attach::flag_checks))]
+fn check_flags(flags: u32, side: Side) -> Result<(), Refusal>
+    ensures { answered result ≡ first_of (flag_checks flags side) }
 {
-    let mark = Header::attach_mark(side);
-    if Header::RESERVED_FROM <= flags {
-        return Answer::InvalidLayout;
-    }
-    if !Header::initialised(flags) {
-        return Answer::WouldBlock;
-    }
-    if Header::has(flags, mark) {
-        return Answer::AlreadyAttached;
-    }
-    Answer::Done(0, 0)
+    Refusal::InvalidLayout.unless(flags < Header::RESERVED_FROM)?;
+    Refusal::WouldBlock.unless(Header::initialised(flags))?;
+    Refusal::AlreadyAttached.unless(!Header::has(flags, Header::attach_mark(side)))
 }
 
-fn check_ring(region: &[u8], side: Side) -> Answer
+#[tactic(auto, unfolding(layout::specs::Attach::ring_checks))]
+fn check_ring(region: &[u8], side: Side) -> Result<(), Refusal>
     requires { header_bytes ≤ length region.now }
-    ensures { result ≡ first_of (ring_checks region.now side) }
+    ensures { answered result ≡ first_of (ring_checks region.now side) }
 {
-    let slot = Header::slot_size(region);
-    let power = Header::power(region);
-    let slot_fits = sizes::slot_ok(slot);
-    let power_fits = sizes::power_ok(power);
-    if !slot_fits {
-        return Answer::InvalidSlotSize;
-    }
-    if !power_fits {
-        return Answer::InvalidCapacity;
-    }
-    if Header::ring_bytes(region) != sizes::ring_bytes(power, slot) {
-        return Answer::InvalidLayout;
-    }
-    if !reserved_ok(region) {
-        return Answer::InvalidLayout;
-    }
-    check_flags(Header::flags(region), side)
+    let slot = u32::load(region, Header::SLOT_SIZE);
+    let power = u8::load(region, Header::POWER);
+    let ring = u64::load(region, Header::RING_BYTES);
+    Refusal::InvalidSlotSize.unless(sizes::slot_ok(slot))?;
+    Refusal::InvalidCapacity.unless(sizes::power_ok(power))?;
+    Refusal::InvalidLayout.unless(ring == sizes::ring_bytes(power, slot))?;
+    Refusal::InvalidLayout.unless(reserved_ok(region))?;
+    check_flags(u32::load(region, Header::FLAGS), side)
 }
 
 // All checks of a region that has room for a header.
-pub fn check(region: &[u8], side: Side) -> Answer
+#[tactic(auto, unfolding(layout::specs::Attach::region_checks, layout::specs::Attach::magic_ok))]
+pub fn check(region: &[u8], side: Side) -> Result<(), Refusal>
     requires { header_bytes ≤ length region.now }
-    ensures { result ≡ first_of (region_checks region.now side) }
+    ensures { answered result ≡ first_of (region_checks region.now side) }
 {
-    if !magic_ok(region) {
-        return Answer::InvalidMagic;
-    }
-    if !version_ok(region) {
-        return Answer::UnsupportedVersion;
-    }
-    if Header::header_size(region) != Limits::HEADER_BYTES as u32 {
-        return Answer::InvalidHeaderSize;
-    }
-    if !sizes_ok(region) {
-        return Answer::InvalidLayout;
-    }
+    let header_size = u32::load(region, Header::HEADER_SIZE);
+    Refusal::InvalidMagic.unless(scans::same_bytes(region, 0, &Header::MAGIC))?;
+    Refusal::UnsupportedVersion.unless(version_ok(region))?;
+    Refusal::InvalidHeaderSize.unless(header_size == Limits::HEADER_BYTES as u32)?;
+    Refusal::InvalidLayout.unless(sizes_ok(region))?;
     check_ring(region, side)
 }
