@@ -13,44 +13,6 @@ use sizes::Limits;
 use types::{Refusal, Side};
 use words::Word;
 
-#[tactic(auto, unfolding(layout::specs::Attach::version_ok))]
-fn version_ok(region: &[u8]) -> bool
-    requires { header_bytes ≤ length region.now }
-    ensures { result ≡ version_ok region.now }
-{
-    u16::load(region, Header::MAJOR) == 0 && u16::load(region, Header::MINOR) == 1
-}
-
-// The header is taken off the total size, since the sum of header and ring might wrap.
-#[tactic(auto, unfolding(layout::specs::Attach::sizes_ok))]
-fn sizes_ok(region: &[u8]) -> bool
-    requires { header_bytes ≤ length region.now }
-    ensures { result ≡ sizes_ok region.now }
-{
-    let total = u64::load(region, Header::TOTAL_SIZE);
-    let ring = u64::load(region, Header::RING_BYTES);
-    total == region.len() as u64
-        && u64::load(region, Header::RING_OFFSET) == Limits::HEADER_BYTES
-        && u64::load(region, Header::ARENA_OFFSET) == 0
-        && u64::load(region, Header::ARENA_BYTES) == 0
-        && total.checked_sub(Limits::HEADER_BYTES) == Some(ring)
-}
-
-// The header's bytes that are in no field.
-fn reserved_ok(region: &[u8]) -> bool
-    requires { header_bytes ≤ length region.now }
-    ensures { result ≡ all_zero region.now reserved }
-{
-    scans::all_zero(region, 7, 0x039)
-        && scans::all_zero(region, 4, 0x044)
-        && scans::all_zero(region, 4, 0x04C)
-        && scans::all_zero(region, 36, 0x05C)
-        && scans::all_zero(region, 56, 0x088)
-        && scans::all_zero(region, 56, 0x0C8)
-        && scans::all_zero(region, 60, 0x104)
-        && scans::all_zero(region, 60, 0x144)
-}
-
 #[tactic(auto, unfolding(layout::specs::Attach::flag_checks))]
 fn check_flags(flags: u32, side: Side) -> Result<(), Refusal>
     ensures { answered result ≡ first_of (flag_checks flags side) }
@@ -60,19 +22,62 @@ fn check_flags(flags: u32, side: Side) -> Result<(), Refusal>
     Refusal::AlreadyAttached.unless(!Header::has(flags, Header::attach_mark(side)))
 }
 
-#[tactic(auto, unfolding(layout::specs::Attach::ring_checks))]
-fn check_ring(region: &[u8], side: Side) -> Result<(), Refusal>
-    requires { header_bytes ≤ length region.now }
-    ensures { answered result ≡ first_of (ring_checks region.now side) }
-{
-    let slot = u32::load(region, Header::SLOT_SIZE);
-    let power = u8::load(region, Header::POWER);
-    let ring = u64::load(region, Header::RING_BYTES);
-    Refusal::InvalidSlotSize.unless(sizes::slot_ok(slot))?;
-    Refusal::InvalidCapacity.unless(sizes::power_ok(power))?;
-    Refusal::InvalidLayout.unless(ring == sizes::ring_bytes(power, slot))?;
-    Refusal::InvalidLayout.unless(reserved_ok(region))?;
-    check_flags(u32::load(region, Header::FLAGS), side)
+// A region that has room for a header.
+#[derive(Clone, Copy)]
+struct Region<'a> {
+    bytes: &'a [u8],
+    ghost long: { header_bytes ≤ length bytes.now },
+}
+
+impl Region<'_> {
+    #[tactic(auto, unfolding(layout::specs::Attach::version_ok))]
+    fn version_ok(&self) -> bool
+        ensures { result ≡ version_ok self.now.bytes.now }
+    {
+        u16::load(self.bytes, Header::MAJOR) == 0 && u16::load(self.bytes, Header::MINOR) == 1
+    }
+
+    // The header is taken off the total size, since the sum of header and ring might wrap.
+    #[tactic(auto, unfolding(layout::specs::Attach::sizes_ok))]
+    fn sizes_ok(&self) -> bool
+        ensures { result ≡ sizes_ok self.now.bytes.now }
+    {
+        let total = u64::load(self.bytes, Header::TOTAL_SIZE);
+        let ring = u64::load(self.bytes, Header::RING_BYTES);
+        total == self.bytes.len() as u64
+            && u64::load(self.bytes, Header::RING_OFFSET) == Limits::HEADER_BYTES
+            && u64::load(self.bytes, Header::ARENA_OFFSET) == 0
+            && u64::load(self.bytes, Header::ARENA_BYTES) == 0
+            && total.checked_sub(Limits::HEADER_BYTES) == Some(ring)
+    }
+
+    // The header's bytes that are in no field.
+    fn reserved_ok(&self) -> bool
+        ensures { result ≡ all_zero self.now.bytes.now reserved }
+    {
+        scans::all_zero(self.bytes, 7, 0x039)
+            && scans::all_zero(self.bytes, 4, 0x044)
+            && scans::all_zero(self.bytes, 4, 0x04C)
+            && scans::all_zero(self.bytes, 36, 0x05C)
+            && scans::all_zero(self.bytes, 56, 0x088)
+            && scans::all_zero(self.bytes, 56, 0x0C8)
+            && scans::all_zero(self.bytes, 60, 0x104)
+            && scans::all_zero(self.bytes, 60, 0x144)
+    }
+
+    #[tactic(auto, unfolding(layout::specs::Attach::ring_checks))]
+    fn check_ring(&self, side: Side) -> Result<(), Refusal>
+        ensures { answered result ≡ first_of (ring_checks self.now.bytes.now side) }
+    {
+        let slot = u32::load(self.bytes, Header::SLOT_SIZE);
+        let power = u8::load(self.bytes, Header::POWER);
+        let ring = u64::load(self.bytes, Header::RING_BYTES);
+        Refusal::InvalidSlotSize.unless(sizes::slot_ok(slot))?;
+        Refusal::InvalidCapacity.unless(sizes::power_ok(power))?;
+        Refusal::InvalidLayout.unless(ring == sizes::ring_bytes(power, slot))?;
+        Refusal::InvalidLayout.unless(self.reserved_ok())?;
+        check_flags(u32::load(self.bytes, Header::FLAGS), side)
+    }
 }
 
 // All checks of a region that has room for a header.
@@ -81,10 +86,11 @@ pub fn check(region: &[u8], side: Side) -> Result<(), Refusal>
     requires { header_bytes ≤ length region.now }
     ensures { answered result ≡ first_of (region_checks region.now side) }
 {
-    let header_size = u32::load(region, Header::HEADER_SIZE);
-    Refusal::InvalidMagic.unless(scans::same_bytes(region, 0, &Header::MAGIC))?;
-    Refusal::UnsupportedVersion.unless(version_ok(region))?;
+    let region = Region { bytes: region };
+    let header_size = u32::load(region.bytes, Header::HEADER_SIZE);
+    Refusal::InvalidMagic.unless(scans::same_bytes(region.bytes, 0, &Header::MAGIC))?;
+    Refusal::UnsupportedVersion.unless(region.version_ok())?;
     Refusal::InvalidHeaderSize.unless(header_size == Limits::HEADER_BYTES as u32)?;
-    Refusal::InvalidLayout.unless(sizes_ok(region))?;
-    check_ring(region, side)
+    Refusal::InvalidLayout.unless(region.sizes_ok())?;
+    region.check_ring(side)
 }
