@@ -10,13 +10,14 @@ ghost use Rattle.layout.specs.Header.{flags_at, counter_at, bell_at};
 
 use header::Header;
 use types::{Bell, Mark, Side};
+use words::{Word, Wraps};
 
 // Stores a side's own counter.
 pub fn publish(region: &mut [u8], side: Side, n: u64)
     requires { header_bytes ≤ length region.old }
     ensures { region.new ≡ put_le 8 region.old (counter_at side) n }
 {
-    words::store64(region, Header::counter_at(side), n);
+    n.store(region, Header::counter_at(side));
 }
 
 // Adds 1 to a bell, which wraps.
@@ -24,16 +25,15 @@ pub fn raise(region: &mut [u8], b: Bell)
     requires { header_bytes ≤ length region.old }
     ensures { region.new ≡ put_le 4 region.old (bell_at b) (next 32 (le_at 4 region.old (bell_at b))) }
 {
-    let old = Header::bell(region, b);
-    let new = words::raise32(old);
-    words::store32(region, Header::bell_at(b), new);
+    let at = Header::bell_at(b);
+    let epoch = u32::load(region, at);
+    epoch.next().store(region, at);
 }
 
 pub fn set_flag(region: &mut [u8], m: Mark)
     requires { header_bytes ≤ length region.old }
     ensures { region.new ≡ put_le 4 region.old flags_at (set_bit (worth m) (le_at 4 region.old flags_at)) }
 {
-    let old = Header::flags(region);
-    let new = Header::with_mark(old, m);
-    words::store32(region, Header::FLAGS, new);
+    let flags = u32::load(region, Header::FLAGS);
+    Header::with_mark(flags, m).store(region, Header::FLAGS);
 }
