@@ -1,16 +1,14 @@
 // Attach: the record of the party that joins a region, once its spin count and the region have passed their checks.
 #![tactic(auto)]
 
-ghost use Rattle.std.specs.Prelude.{◌≡◌, ◌≤◌, length};
-ghost use Rattle.words.specs.Le.{le_at, put_le};
-ghost use Rattle.types.specs.Answers.{first_of};
+ghost use Rattle.std.specs.Prelude.{◌≡◌, ◌≤◌, length, OnOk};
+ghost use Rattle.types.specs.Refusals.{answered};
 ghost use Rattle.layout.specs.Limits.{header_bytes};
-ghost use Rattle.layout.specs.Flags.{worth, set_bit, attach_mark};
-ghost use Rattle.layout.specs.Header.{flags_at};
-ghost use Rattle.layout.specs.Attach.{fresh, unattached, attached, region_checks, attach_answer, attach_reply, attach_leaves};
+ghost use Rattle.layout.specs.Attach.{fresh, unattached, attached, attach_answer, attach_reply, attach_leaves};
 
 use header::Header;
-use types::{Answer, Own, Party, Reply, Side, Step, Told};
+use types::{Own, Party, Refusal, Reply, Side, Step};
+use words::Word;
 
 // A party at rest that has named nothing yet.
 fn fresh(own: Own, counter: u64) -> Party
@@ -49,54 +47,42 @@ fn attached(region: &[u8], side: Side, spins: u16) -> Party
     let own = Own {
         side,
         attached: true,
-        power: Header::power(region),
-        slot: Header::slot_size(region),
-        notfull: Header::notfull_on(Header::flags(region)),
+        power: u8::load(region, Header::POWER),
+        slot: u32::load(region, Header::SLOT_SIZE),
+        notfull: Header::notfull_on(u32::load(region, Header::FLAGS)),
         spins,
     };
-    fresh(own, Header::counter(region, side))
+    fresh(own, u64::load(region, Header::counter_at(side)))
 }
 
-fn set_own_bit(region: &mut [u8], side: Side)
-    requires { header_bytes ≤ length region.old }
-    ensures { region.new ≡ put_le 4 region.old flags_at (set_bit (worth (attach_mark side)) (le_at 4 region.old flags_at)) }
+// A count above the limit is refused before anything of the region is looked at, and a region too short for a header has
+// no fields to check.
+#[tactic(auto, unfolding(layout::specs::Attach::attach_answer, layout::specs::Attach::attach_checks, layout::specs::Attach::region_checks))]
+fn accept(region: &[u8], side: Side, spins: u16) -> Result<(), Refusal>
+    ensures answer { answered result ≡ attach_answer region.now side spins }
+    ensures long { OnOk result (header_bytes ≤ length region.now) }
 {
-    let flags = Header::flags(region);
-    let own = Header::attach_mark(side);
-    words::store32(region, Header::FLAGS, Header::with_mark(flags, own));
-}
-
-// A region too short for a header has no fields to check.
-fn region_answer(region: &[u8], side: Side) -> Answer
-    ensures { result ≡ first_of (region_checks region.now side) }
-{
-    if region.len() < Header::BYTES {
-        return Answer::InvalidLayout;
-    }
+    Refusal::BadCall.unless(sizes::spins_ok(spins))?;
+    Refusal::InvalidLayout.unless(Header::BYTES <= region.len())?;
     checks::check(region, side)
 }
 
-// A count above the limit is refused before anything of the region is looked at.
-fn attach_answer(region: &[u8], side: Side, spins: u16) -> Answer
-    ensures { result ≡ attach_answer region.now side spins }
-{
-    if !sizes::spins_ok(spins) {
-        return Answer::BadCall;
-    }
-    region_answer(region, side)
-}
-
+#[tactic(auto, unfolding(layout::specs::Attach::attach_reply, layout::specs::Attach::attach_leaves))]
 pub fn attach(region: &mut [u8], side: Side, spins: u16) -> Reply
     ensures reply { result ≡ attach_reply region.old side spins }
     ensures leaves { region.new ≡ attach_leaves region.old side spins }
 {
-    let answer = attach_answer(region, side, spins);
-    let told = Told::from(answer);
-    if told.number != 0 {
-        let party = unattached(side);
-        return Reply { party, answer };
+    let accepted = accept(region, side, spins);
+    let answer = accepted.into();
+    match accepted {
+        Ok(()) => {
+            let party = attached(region, side, spins);
+            stores::set_flag(region, Header::attach_mark(side));
+            Reply { party, answer }
+        }
+        Err(_) => Reply {
+            party: unattached(side),
+            answer,
+        },
     }
-    let party = attached(region, side, spins);
-    set_own_bit(region, side);
-    Reply { party, answer }
 }
