@@ -2,7 +2,7 @@
 #![tactic(auto)]
 
 ghost use Rattle.std.specs.Prelude.{◌≡◌};
-ghost use Rattle.rules.specs.Sides.{other, same_side, used, limit, blocked_answer, ring_bell, sleep_bell, rings, wait_op, wake_op};
+ghost use Rattle.rules.specs.Sides.{other, used, limit, blocked_answer, ring_bell, sleep_bell, rings, wait_op, wake_op};
 
 use types::{Answer, Bell, Side};
 
@@ -12,21 +12,6 @@ pub fn other(side: Side) -> Side
     match side {
         Side::Sender => Side::Recorder,
         Side::Recorder => Side::Sender,
-    }
-}
-
-pub fn same_side(a: Side, b: Side) -> bool
-    ensures { result ≡ same_side a b }
-{
-    match a {
-        Side::Sender => match b {
-            Side::Sender => true,
-            Side::Recorder => false,
-        },
-        Side::Recorder => match b {
-            Side::Sender => false,
-            Side::Recorder => true,
-        },
     }
 }
 
