@@ -1,8 +1,8 @@
 // The tests of a party's record: 20's grounds that lie in it, whether a call runs, and whether the party sleeps.
 #![tactic(auto, unfolding(rules::specs::Calls::sound, rules::specs::Calls::ready))]
 
-ghost use Rattle.std.specs.Prelude.{◌≡◌, ◌&&◌};
-ghost use Rattle.rules.specs.Calls.{is_resting, is_sleeping, length_ok, sound, ready};
+ghost use Rattle.std.specs.Prelude.{◌≡◌};
+ghost use Rattle.rules.specs.Calls.{is_sleeping, length_ok, sound, ready};
 ghost use Rattle.rules.specs.Take.{stance_of};
 
 use types::{Party, Side, Stance, Step};
