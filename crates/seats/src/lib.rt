@@ -1,5 +1,5 @@
 // The two seats of a bench, and what becomes of them when a party has had its turn.
-#![tactic(auto)]
+#![tactic(auto, unfolding(rules::specs::Bench::settled, rules::specs::Bench::turned))]
 
 ghost use Rattle.std.specs.Prelude.{◌≡◌};
 ghost use Rattle.rules.specs.Bench.{party_of, seat, settled, turned};
@@ -19,40 +19,30 @@ pub fn party_of(b: Bench, side: Side) -> Party
 pub fn seat(b: Bench, side: Side, p: Party) -> Bench
     ensures { result ≡ seat b side p }
 {
-    let sender = b.sender;
-    let recorder = b.recorder;
     match side {
-        Side::Sender => Bench {
-            sender: p,
-            recorder,
-        },
-        Side::Recorder => Bench {
-            sender,
-            recorder: p,
-        },
+        Side::Sender => Bench { sender: p, ..b },
+        Side::Recorder => Bench { recorder: p, ..b },
     }
 }
 
 pub fn settled(b: Bench, side: Side, r: Reply) -> Played
     ensures { result ≡ settled b side r }
 {
-    let party = r.party;
-    let answer = r.answer;
-    let bench = seat(b, side, party);
-    Played { bench, answer }
+    Played {
+        bench: seat(b, side, r.party),
+        answer: r.answer,
+    }
 }
 
 // Only the other side can have been asleep during a turn.
 pub fn turned(b: Bench, side: Side, t: Turned) -> Played
     ensures { result ≡ turned b side t }
 {
-    let party = t.party;
-    let answer = t.answer;
-    let woke = t.woke;
     let them = sides::other(side);
-    let sleeper = party_of(b, them);
-    let heard = wakes::wakened(them, sleeper, woke);
-    let moved = seat(b, side, party);
-    let bench = seat(moved, them, heard);
-    Played { bench, answer }
+    let heard = wakes::wakened(them, party_of(b, them), t.woke);
+    let moved = seat(b, side, t.party);
+    Played {
+        bench: seat(moved, them, heard),
+        answer: t.answer,
+    }
 }
