@@ -1,16 +1,16 @@
 // A turn over a lent region: what is refused is tested, and else the party acts.
-#![tactic(auto)]
+#![tactic(auto, unfolding(rules::specs::Turn::goes, rules::specs::Calls::sound, rules::specs::Next::next_spec, rules::specs::Turn::turn_spec, rules::specs::Turn::turn_leaves, rules::specs::Turn::turn_buffer))]
 
 ghost use Rattle.std.specs.Prelude.{◌≡◌, []};
 ghost use Rattle.rules.specs.Turn.{refused, turn_spec, turn_leaves, turn_buffer};
 
 use types::{Answer, Fault, Party, Side, Turned};
 
-fn refused(p: Party) -> Turned
-    ensures { result ≡ refused p }
+fn refused(party: Party) -> Turned
+    ensures { result ≡ refused party }
 {
     Turned {
-        party: p,
+        party,
         answer: Answer::BadCall,
         woke: None,
     }
@@ -30,10 +30,8 @@ pub fn turn(
     ensures leaves { region.new ≡ turn_leaves side region.old p payload.now buffer.old fault }
     ensures given { buffer.new ≡ turn_buffer side region.old p payload.now buffer.old fault }
 {
-    let goes = grounds::goes(side, p, region.len(), payload.len(), buffer.len(), fault);
-    let error = grounds::error_of(fault);
-    if goes {
-        return acts::act(region, p, payload, buffer, error);
+    if grounds::goes(side, p, region.len(), payload.len(), buffer.len(), fault) {
+        return acts::act(region, p, payload, buffer, grounds::error_of(fault));
     }
     refused(p)
 }
@@ -43,8 +41,7 @@ pub fn push_turn(region: &mut [u8], p: Party, payload: &[u8], fault: Fault) -> T
     ensures value { result ≡ turn_spec Side.Sender region.old p payload.now [] fault }
     ensures leaves { region.new ≡ turn_leaves Side.Sender region.old p payload.now [] fault }
 {
-    let mut none = [0u8; 0];
-    turn(Side::Sender, region, p, payload, &mut none, fault)
+    turn(Side::Sender, region, p, payload, &mut [], fault)
 }
 
 // A recorder has no payload.
@@ -53,6 +50,5 @@ pub fn pop_turn(region: &mut [u8], p: Party, buffer: &mut [u8], fault: Fault) ->
     ensures leaves { region.new ≡ turn_leaves Side.Recorder region.old p [] buffer.old fault }
     ensures given { buffer.new ≡ turn_buffer Side.Recorder region.old p [] buffer.old fault }
 {
-    let none = [0u8; 0];
-    turn(Side::Recorder, region, p, &none, buffer, fault)
+    turn(Side::Recorder, region, p, &[], buffer, fault)
 }
