@@ -1,12 +1,12 @@
 // A turn that is not refused: the party's next access, that access, and what becomes of the party.
-#![tactic(auto)]
+#![tactic(auto, unfolding(rules::specs::Turn::act_spec, rules::specs::Turn::act_leaves, rules::specs::Turn::act_buffer))]
 
 ghost use Rattle.std.specs.Prelude.{◌≡◌, length};
 ghost use Rattle.rules.specs.Next.{next_spec};
 ghost use Rattle.rules.specs.Turn.{act_spec, act_leaves, act_buffer};
 ghost use Rattle.access.specs.Fitted.{Fitted};
 
-use types::{Party, Turned};
+use types::{Party, Reply, Turned};
 
 pub fn act(region: &mut [u8], p: Party, payload: &[u8], buffer: &mut [u8], error: u16) -> Turned
     requires { Fitted p.own (next_spec p) (length region.old) (length payload.now) p.length (length buffer.old) }
@@ -14,16 +14,12 @@ pub fn act(region: &mut [u8], p: Party, payload: &[u8], buffer: &mut [u8], error
     ensures leaves { region.new ≡ act_leaves region.old p payload.now }
     ensures given { buffer.new ≡ act_buffer region.old p buffer.old }
 {
-    let own = p.own;
     let a = next::next(p);
-    let value = access::perform(region, own, a, p.tag, payload, p.length, buffer);
-    let reply = take::take(p, value, error);
-    let woke = wakes::woke_of(a, error);
-    let party = reply.party;
-    let answer = reply.answer;
+    let value = access::perform(region, p.own, a, p.tag, payload, p.length, buffer);
+    let Reply { party, answer } = take::take(p, value, error);
     Turned {
         party,
         answer,
-        woke,
+        woke: wakes::woke_of(a, error),
     }
 }
