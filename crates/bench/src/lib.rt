@@ -1,5 +1,5 @@
 // Both parties and their sleeping places: what an event of a run makes of them, of the region and of the buffer.
-#![tactic(auto)]
+#![tactic(auto, unfolding(rules::specs::Bench::played, rules::specs::Bench::played_leaves, rules::specs::Bench::played_buffer))]
 
 ghost use Rattle.std.specs.Prelude.{◌≡◌};
 ghost use Rattle.rules.specs.Turn.{turn_leaves, turn_buffer};
