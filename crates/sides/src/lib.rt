@@ -5,6 +5,7 @@ ghost use Rattle.std.specs.Prelude.{◌≡◌};
 ghost use Rattle.rules.specs.Sides.{other, used, limit, blocked_answer, ring_bell, sleep_bell, rings, wait_op, wake_op};
 
 use types::{Answer, Bell, Side};
+use words::Wraps;
 
 pub fn other(side: Side) -> Side
     ensures { result ≡ other side }
@@ -20,8 +21,8 @@ pub fn used(side: Side, own: u64, their: u64) -> u64
     ensures { result ≡ used side own their }
 {
     match side {
-        Side::Sender => words::ahead64(own, their),
-        Side::Recorder => words::ahead64(their, own),
+        Side::Sender => own.ahead_of(their),
+        Side::Recorder => their.ahead_of(own),
     }
 }
 
