@@ -7,7 +7,7 @@ ghost use Rattle.rules.specs.Take.{stance_of};
 
 use types::{Fault, Party, Side, Stance};
 
-// The error as a turn takes it: 0 for none.
+// The error as a turn takes it, and as the step of a shutdown keeps it: 0 for none.
 pub fn error_of(fault: Fault) -> u16
     ensures { result ≡ error_of fault }
 {

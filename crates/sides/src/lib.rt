@@ -55,14 +55,11 @@ pub fn ring_bell(side: Side) -> Bell
     }
 }
 
-// The bell that a side sleeps on.
+// The bell that a side sleeps on, which the other raises.
 pub fn sleep_bell(side: Side) -> Bell
     ensures { result ≡ sleep_bell side }
 {
-    match side {
-        Side::Sender => Bell::NotFull,
-        Side::Recorder => Bell::NotEmpty,
-    }
+    ring_bell(other(side))
 }
 
 pub fn rings(side: Side, notfull: bool) -> bool
