@@ -1,4 +1,5 @@
-// Where a turn of a push or a pop leads, a function a step. A party's own copy of sizes and options is `own`.
+// Where a turn of a push or a pop leads, a function a step. A party's own copy of sizes and options is `own`. The length
+// and the tag of the note that a pop took go side by side, as a step and an answer have them.
 #![tactic(auto)]
 
 ghost use Rattle.std.specs.Prelude.{◌≡◌};
@@ -7,15 +8,13 @@ ghost use Rattle.rules.specs.Looks.{room_here};
 ghost use Rattle.rules.specs.Steps.{room_move, blocked_move, look_move, fit_move, copy_with, copy_move, publish_move, check_move, unless_failed, wake_move};
 
 use looks::Error;
-use types::{Answer, Fit, Move, Own, Room, Side, Step};
+use types::{Answer, Fit, Move, Own, Party, Room, Side, SlotHead, Step};
 
 // What the other side's counter says to a party.
-pub fn room_here(own: Own, counter: u64, their: u64) -> Room
-    ensures { result ≡ room_here own counter their }
+pub fn room_here(p: Party, their: u64) -> Room
+    ensures { result ≡ room_here p.own p.counter their }
 {
-    let side = own.side;
-    let capacity = sizes::capacity(own.power);
-    rooms::room_of(side, capacity, counter, their)
+    rooms::room_of(p.own.side, sizes::capacity(p.own.power), p.counter, their)
 }
 
 // Corruption begins a shutdown.
@@ -43,28 +42,25 @@ pub fn goes_or_ends(goes: bool, onward: Step, answer: Answer) -> Move
 pub fn blocked_move(blocking: bool, side: Side) -> Move
     ensures { result ≡ blocked_move blocking side }
 {
-    let answer = sides::blocked_answer(side);
-    goes_or_ends(blocking, Step::Gate, answer)
+    goes_or_ends(blocking, Step::Gate, sides::blocked_answer(side))
 }
 
 // P1 and C1.
-pub fn look_move(own: Own, counter: u64, blocking: bool, their: u64) -> Move
-    ensures { result ≡ look_move own counter blocking their }
+#[tactic(auto, unfolding(rules::specs::Steps::look_move))]
+pub fn look_move(p: Party, their: u64) -> Move
+    ensures { result ≡ look_move p.own p.counter p.blocking their }
 {
-    let side = own.side;
-    let room = room_here(own, counter, their);
-    let blocked = blocked_move(blocking, side);
-    room_move(room, blocked)
+    room_move(room_here(p, their), blocked_move(p.blocking, p.own.side))
 }
 
 // C2: 8, then 15.
-pub fn fit_move(fit: Fit, length: u16, tag: u16) -> Move
-    ensures { result ≡ fit_move fit length tag }
+pub fn fit_move(fit: Fit, head: SlotHead) -> Move
+    ensures { result ≡ fit_move fit head.length head.tag }
 {
     match fit {
         Fit::Bad => Move::End(Answer::CorruptSlot),
-        Fit::Small => Move::End(Answer::OutputTooSmall(length)),
-        Fit::Fits => Move::To(Step::Publish(length, tag)),
+        Fit::Small => Move::End(Answer::OutputTooSmall(head.length)),
+        Fit::Fits => Move::To(Step::Publish(head.length, head.tag)),
     }
 }
 
@@ -79,33 +75,31 @@ pub fn copy_with(side: Side, read: Move) -> Move
 }
 
 // P2 and C2. The word is the slot's header, where a pop read one.
-pub fn copy_move(own: Own, buffer: u32, word: u64) -> Move
-    ensures { result ≡ copy_move own buffer word }
+#[tactic(auto, unfolding(rules::specs::Steps::copy_move))]
+pub fn copy_move(p: Party, word: u64) -> Move
+    ensures { result ≡ copy_move p.own p.length word }
 {
-    let side = own.side;
-    let most = sizes::payload_capacity(own.slot);
     let head = slots::head_of(word);
-    let fit = looks::fit_of(head, most, buffer);
-    let read = fit_move(fit, head.length, head.tag);
-    copy_with(side, read)
+    let fit = looks::fit_of(head, sizes::payload_capacity(p.own.slot), p.length);
+    copy_with(p.own.side, fit_move(fit, head))
 }
 
 // P3 and C3.
+#[tactic(auto, unfolding(rules::specs::Steps::publish_move))]
 pub fn publish_move(own: Own, length: u16, tag: u16) -> Move
     ensures { result ≡ publish_move own length tag }
 {
-    let side = own.side;
-    let rings = sides::rings(side, own.notfull);
+    let rings = sides::rings(own.side, own.notfull);
     goes_or_ends(rings, Step::Check(length, tag), Answer::Done(length, tag))
 }
 
 // P4 and C4.
-pub fn check_move(own: Own, counter: u64, their: u64, length: u16, tag: u16) -> Move
-    ensures { result ≡ check_move own counter their length tag }
+#[tactic(auto, unfolding(rules::specs::Steps::check_move))]
+pub fn check_move(p: Party, their: u64, length: u16, tag: u16) -> Move
+    ensures { result ≡ check_move p.own p.counter their length tag }
 {
-    let side = own.side;
-    let capacity = sizes::capacity(own.power);
-    let blocked = rooms::was_blocked(side, capacity, counter, their);
+    let capacity = sizes::capacity(p.own.power);
+    let blocked = rooms::was_blocked(p.own.side, capacity, p.counter, their);
     goes_or_ends(blocked, Step::Raise(length, tag), Answer::Done(length, tag))
 }
 
@@ -113,8 +107,7 @@ pub fn check_move(own: Own, counter: u64, their: u64, length: u16, tag: u16) -> 
 pub fn unless_failed(error: u16, operation: u8, answer: Answer) -> Answer
     ensures { result ≡ unless_failed error operation answer }
 {
-    let fine = error == Error::NONE;
-    if fine {
+    if error == Error::NONE {
         answer
     } else {
         Answer::Syscall(operation, error)
@@ -122,12 +115,10 @@ pub fn unless_failed(error: u16, operation: u8, answer: Answer) -> Answer
 }
 
 // P6 and C6, and a close's last turn.
+#[tactic(auto, unfolding(rules::specs::Steps::wake_move))]
 pub fn wake_move(own: Own, error: u16, length: u16, tag: u16) -> Move
     ensures { result ≡ wake_move own error length tag }
 {
-    let side = own.side;
-    let bell = sides::ring_bell(side);
-    let operation = sides::wake_op(bell);
-    let answer = unless_failed(error, operation, Answer::Done(length, tag));
-    Move::End(answer)
+    let operation = sides::wake_op(sides::ring_bell(own.side));
+    Move::End(unless_failed(error, operation, Answer::Done(length, tag)))
 }
