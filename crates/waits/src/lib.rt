@@ -2,10 +2,9 @@
 #![tactic(auto)]
 
 ghost use Rattle.std.specs.Prelude.{◌≡◌};
-ghost use Rattle.types.specs.Pick.{pick};
 ghost use Rattle.rules.specs.Steps.{left_move, door_move, gate_move, to_spin, spin_move, again_move, nap_move, wait_move, last_move, close_move, shut_move};
 
-use types::{Answer, Bell, Door, Move, Nap, Own, Side, Step};
+use types::{Answer, Bell, Door, Move, Nap, Own, Party, Side, Step};
 
 // Where the other has closed, a recorder looks once more: the last note may have come before the close.
 fn left_move(side: Side) -> Move
@@ -29,39 +28,38 @@ fn door_move(door: Door, side: Side, onward: Step) -> Move
 }
 
 // B1, W1, B4 and W4.
+#[tactic(auto, unfolding(rules::specs::Steps::gate_move))]
 pub fn gate_move(own: Own, flags: u64, onward: Step) -> Move
     ensures { result ≡ gate_move own flags onward }
 {
-    let side = own.side;
-    let door = looks::door_of(side, flags);
-    door_move(door, side, onward)
+    door_move(looks::door_of(own.side, flags), own.side, onward)
 }
 
 // So many spins are left before B2 and W2. A spin carries how many follow it.
+#[tactic(auto, unfolding(rules::specs::Steps::to_spin))]
 pub fn to_spin(spins: u16) -> Step
     ensures { result ≡ to_spin spins }
 {
-    if spins == 0 {
-        return Step::Epoch;
+    match spins {
+        0 => Step::Epoch,
+        _ => Step::Spin(spins - 1),
     }
-    Step::Spin(spins - 1)
 }
 
 // A spin looks as P1 and C1 do, and spins on over no room.
-pub fn spin_move(own: Own, counter: u64, their: u64, spins: u16) -> Move
-    ensures { result ≡ spin_move own counter their spins }
+#[tactic(auto, unfolding(rules::specs::Steps::spin_move))]
+pub fn spin_move(p: Party, their: u64, spins: u16) -> Move
+    ensures { result ≡ spin_move p.own p.counter their spins }
 {
-    let room = steps::room_here(own, counter, their);
-    let onward = to_spin(spins);
-    steps::room_move(room, Move::To(onward))
+    steps::room_move(steps::room_here(p, their), Move::To(to_spin(spins)))
 }
 
 // B3 and W3.
-pub fn again_move(own: Own, counter: u64, their: u64, epoch: u32) -> Move
-    ensures { result ≡ again_move own counter their epoch }
+#[tactic(auto, unfolding(rules::specs::Steps::again_move))]
+pub fn again_move(p: Party, their: u64, epoch: u32) -> Move
+    ensures { result ≡ again_move p.own p.counter their epoch }
 {
-    let room = steps::room_here(own, counter, their);
-    steps::room_move(room, Move::To(Step::GateAgain(epoch)))
+    steps::room_move(steps::room_here(p, their), Move::To(Step::GateAgain(epoch)))
 }
 
 pub fn nap_move(nap: Nap, operation: u8, error: u16) -> Move
@@ -76,55 +74,47 @@ pub fn nap_move(nap: Nap, operation: u8, error: u16) -> Move
 }
 
 // B5 and W5.
+#[tactic(auto, unfolding(rules::specs::Steps::wait_move))]
 pub fn wait_move(own: Own, word: u64, error: u16, epoch: u32) -> Move
     ensures { result ≡ wait_move own word error epoch }
 {
-    let side = own.side;
-    let same = word == (epoch as u64);
-    let nap = looks::nap_of(error, same);
-    let bell = sides::sleep_bell(side);
-    let operation = sides::wait_op(bell);
+    let nap = looks::nap_of(error, word == u64::from(epoch));
+    let operation = sides::wait_op(sides::sleep_bell(own.side));
     nap_move(nap, operation, error)
 }
 
-fn last_answer(timed: bool) -> Answer
-    ensures { result ≡ pick timed Answer.Timeout Answer.Closed }
-{
-    if timed {
-        return Answer::Timeout;
-    }
-    Answer::Closed
-}
-
 // B6 and W6: a time-out is answered, or the other's close, over no room alone.
-pub fn last_move(own: Own, counter: u64, their: u64, timed: bool) -> Move
-    ensures { result ≡ last_move own counter their timed }
+#[tactic(auto, unfolding(rules::specs::Steps::last_move))]
+pub fn last_move(p: Party, their: u64, timed: bool) -> Move
+    ensures { result ≡ last_move p.own p.counter their timed }
 {
-    let room = steps::room_here(own, counter, their);
-    let answer = last_answer(timed);
-    steps::room_move(room, Move::End(answer))
+    let answer = if timed {
+        Answer::Timeout
+    } else {
+        Answer::Closed
+    };
+    steps::room_move(steps::room_here(p, their), Move::End(answer))
 }
 
 // A close's first turn.
+#[tactic(auto, unfolding(rules::specs::Steps::close_move))]
 pub fn close_move(own: Own) -> Move
     ensures { result ≡ close_move own }
 {
-    let side = own.side;
-    let rings = sides::rings(side, own.notfull);
+    let rings = sides::rings(own.side, own.notfull);
     steps::goes_or_ends(rings, Step::CloseRaise, Answer::Done(0, 0))
 }
 
 // A shutdown's last turn: the first failure of its two wakes. Corruption ignores both and answers 7.
+#[tactic(auto, unfolding(rules::specs::Steps::shut_move))]
 pub fn shut_move(corrupt: bool, first: u16, error: u16) -> Move
     ensures { result ≡ shut_move corrupt first error }
 {
-    let earlier = sides::wake_op(Bell::NotEmpty);
-    let later = sides::wake_op(Bell::NotFull);
-    let last = steps::unless_failed(error, later, Answer::Done(0, 0));
-    let answer = steps::unless_failed(first, earlier, last);
+    let later = steps::unless_failed(error, sides::wake_op(Bell::NotFull), Answer::Done(0, 0));
+    let either = steps::unless_failed(first, sides::wake_op(Bell::NotEmpty), later);
     if corrupt {
         Move::End(Answer::CorruptIndices)
     } else {
-        Move::End(answer)
+        Move::End(either)
     }
 }
