@@ -5,6 +5,7 @@ ghost use Rattle.std.specs.Prelude.{◌≡◌};
 ghost use Rattle.rules.specs.Take.{step_after, answer_of, counter_after, closed_after, take_spec};
 
 use types::{Answer, Move, Party, Reply, Stance, Step};
+use words::Wraps;
 
 pub fn step_after(moved: Move, step: Step) -> Step
     ensures { result ≡ step_after moved step }
@@ -30,13 +31,10 @@ pub fn answer_of(moved: Move) -> Answer
 pub fn counter_after(stance: Stance, counter: u64) -> u64
     ensures { result ≡ counter_after stance counter }
 {
-    match stance {
-        Stance::Resting => counter,
-        Stance::Sleeping => counter,
-        Stance::Copying => counter,
-        Stance::Publishing => words::next64(counter),
-        Stance::Closing => counter,
-        Stance::Moving => counter,
+    if stance == Stance::Publishing {
+        counter.next()
+    } else {
+        counter
     }
 }
 
@@ -44,35 +42,23 @@ pub fn counter_after(stance: Stance, counter: u64) -> u64
 pub fn closed_after(stance: Stance, closed: bool) -> bool
     ensures { result ≡ closed_after stance closed }
 {
-    match stance {
-        Stance::Resting => closed,
-        Stance::Sleeping => closed,
-        Stance::Copying => closed,
-        Stance::Publishing => closed,
-        Stance::Closing => true,
-        Stance::Moving => closed,
-    }
+    closed || stance == Stance::Closing
 }
 
+#[tactic(auto, unfolding(rules::specs::Take::take_spec, rules::specs::Take::move_of))]
 pub fn take(p: Party, value: u64, error: u16) -> Reply
     ensures { result ≡ take_spec p value error }
 {
-    let own = p.own;
-    let step = p.step;
-    let moved = moves::move_at(step, own, p.counter, p.blocking, p.length, value, error);
-    let stance = sound::stance_of(step);
-    let closed = closed_after(stance, p.closed);
-    let counter = counter_after(stance, p.counter);
-    let onward = step_after(moved, step);
-    let answer = answer_of(moved);
+    let moved = moves::move_at(p, value, error);
+    let stance = sound::stance_of(p.step);
     let party = Party {
-        own,
-        closed,
-        counter,
-        blocking: p.blocking,
-        tag: p.tag,
-        length: p.length,
-        step: onward,
+        closed: closed_after(stance, p.closed),
+        counter: counter_after(stance, p.counter),
+        step: step_after(moved, p.step),
+        ..p
     };
-    Reply { party, answer }
+    Reply {
+        party,
+        answer: answer_of(moved),
+    }
 }
