@@ -1,5 +1,5 @@
 -- Bytes, parties and answers summed up in a number, so that a report shows whether anything changed.
-use Rattle.std.specs.Prelude.{Bool, true, false, List, [], ◌∷◌, ℕ, ◌+◌, ◌*◌, ◌/◌, ◌%◌, ◌^◌}
+use Rattle.std.specs.Prelude.{Bool, true, false, List, ℕ, ◌+◌, ◌*◌, ◌/◌, ◌%◌, ◌^◌, fold}
 use Rattle.types.specs.Answers.{told_of}
 use Rattle.types.specs.declared.Side.{Side}
 use Rattle.types.specs.declared.Side.TheVariants.{Sender, Recorder}
@@ -21,8 +21,7 @@ mix_wide sum x = mix (mix sum (x % 2 ^ 32)) (x / 2 ^ 32)
 
 -- each byte in its turn, so that the order shows
 unfoldable pub mix_bytes : (sum : ℕ) → List ℕ → ℕ
-mix_bytes sum [] = sum
-mix_bytes sum (b ∷ s) = mix_bytes (mix sum b) s
+mix_bytes sum s = fold mix sum s
 
 -- two numbers of 32 bits as one word of a report
 unfoldable pub pair : (low high : ℕ) → ℕ

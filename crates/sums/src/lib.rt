@@ -2,52 +2,52 @@
 #![tactic(auto)]
 
 ghost use Rattle.std.specs.Prelude.{◌≡◌};
-ghost use Rattle.types.specs.Answers.{told_of};
-ghost use Rattle.sums.specs.Sums.{mix as mix_of, mix_wide, mix_bytes, pair as pair_of, whose as whose_of, stand_of, own_sum, party_sum, party_word, told_word, bytes_word, came_sum};
+ghost use Rattle.sums.specs.Sums.{mix, mix_wide, mix_bytes, pair, whose, stand_of, own_sum, party_sum, party_word, told_word, bytes_word, came_sum};
 
 use types::{Own, Party, Reply, Side, Step, Told};
 
-const LIMIT: u64 = 0x1_0000_0000;
+// What the upper half of a word counts in.
+const HIGH: u64 = 0x1_0000_0000;
 
-const FACTOR: u64 = 0x100_0193;
+const FACTOR: u32 = 0x100_0193;
 
-fn mix(sum: u32, x: u32) -> u32
-    ensures { result ≡ mix_of sum x }
-{
-    ((sum as u64 * FACTOR + x as u64 + 1) % LIMIT) as u32
-}
+// A sum of 32 bits, which wraps.
+#[derive(Clone, Copy)]
+struct Sum(u32);
 
-fn mix_wide(sum: u32, x: u64) -> u32
-    ensures { result ≡ mix_wide sum x }
-{
-    let low = mix(sum, (x % LIMIT) as u32);
-    mix(low, (x / LIMIT) as u32)
-}
-
-fn pair(low: u32, high: u32) -> u64
-    ensures { result ≡ pair_of low high }
-{
-    low as u64 + high as u64 * LIMIT
-}
-
-fn wide(x: u8) -> u32
-    ensures { result ≡ x }
-{
-    x as u32
-}
-
-fn mix_bytes(sum: u32, s: &[u8]) -> u32
-    ensures { result ≡ mix_bytes sum s.now }
-{
-    let mut all = sum;
-    for k in 0..s.len() {
-        all = mix(all, wide(s[k]));
+impl Sum {
+    #[tactic(auto, unfolding(crate::specs::Sums::mix))]
+    fn mix(self, x: u32) -> Sum
+        ensures { result.0 ≡ mix self.0 x }
+    {
+        Sum(self.0.wrapping_mul(FACTOR).wrapping_add(x).wrapping_add(1))
     }
-    all
+
+    #[tactic(auto, unfolding(crate::specs::Sums::mix_wide))]
+    fn mix_wide(self, x: u64) -> Sum
+        ensures { result.0 ≡ mix_wide self.0 x }
+    {
+        self.mix((x % HIGH) as u32).mix((x / HIGH) as u32)
+    }
+
+    #[tactic(auto, unfolding(crate::specs::Sums::mix_bytes))]
+    fn mix_bytes(self, s: &[u8]) -> Sum
+        ensures { result.0 ≡ mix_bytes self.0 s.now }
+    {
+        s.iter().fold(self, |sum, x| sum.mix(u32::from(*x)))
+    }
 }
 
+#[tactic(auto, unfolding(crate::specs::Sums::pair))]
+fn pair(low: u32, high: u32) -> u64
+    ensures { result ≡ pair low high }
+{
+    u64::from(low) + u64::from(high) * HIGH
+}
+
+// A report's number for a side.
 fn whose(side: Side) -> u32
-    ensures { result ≡ whose_of side }
+    ensures { result ≡ whose side }
 {
     match side {
         Side::Sender => 0,
@@ -55,6 +55,7 @@ fn whose(side: Side) -> u32
     }
 }
 
+// A report's number for a step, whatever it carries.
 fn stand_of(step: Step) -> u32
     ensures { result ≡ stand_of step }
 {
@@ -85,63 +86,63 @@ fn stand_of(step: Step) -> u32
     }
 }
 
-fn own_sum(own: Own) -> u32
-    ensures { result ≡ own_sum own }
+#[tactic(auto, unfolding(crate::specs::Sums::own_sum))]
+fn own_sum(own: Own) -> Sum
+    ensures { result.0 ≡ own_sum own }
 {
-    let side = own.side;
-    let attached = mix(whose(side), own.attached as u32);
-    let power = mix(attached, own.power as u32);
-    let slot = mix(power, own.slot);
-    let option = mix(slot, own.notfull as u32);
-    mix(option, own.spins as u32)
+    Sum(whose(own.side))
+        .mix(u32::from(own.attached))
+        .mix(u32::from(own.power))
+        .mix(own.slot)
+        .mix(u32::from(own.notfull))
+        .mix(u32::from(own.spins))
 }
 
-fn party_sum(p: Party) -> u32
-    ensures { result ≡ party_sum p }
+#[tactic(auto, unfolding(crate::specs::Sums::party_sum))]
+fn party_sum(p: Party) -> Sum
+    ensures { result.0 ≡ party_sum p }
 {
-    let own = p.own;
-    let closed = mix(own_sum(own), p.closed as u32);
-    let counter = mix_wide(closed, p.counter);
-    let blocking = mix(counter, p.blocking as u32);
-    let tag = mix(blocking, p.tag as u32);
-    mix(tag, p.length)
+    own_sum(p.own)
+        .mix(u32::from(p.closed))
+        .mix_wide(p.counter)
+        .mix(u32::from(p.blocking))
+        .mix(u32::from(p.tag))
+        .mix(p.length)
 }
 
 // A party's step, and the sum of the rest of its record.
+#[tactic(auto, unfolding(crate::specs::Sums::party_word))]
 pub fn party_word(p: Party) -> u64
     ensures { result ≡ party_word p }
 {
-    let step = p.step;
-    pair(stand_of(step), party_sum(p))
+    pair(stand_of(p.step), party_sum(p).0)
 }
 
 // A kind, and the number, tag, length and error of an answer.
+#[tactic(auto, unfolding(crate::specs::Sums::told_word))]
 pub fn told_word(kind: u8, t: Told) -> u64
     ensures { result ≡ told_word kind t }
 {
-    let low = kind as u32 + 0x100 * t.number as u32 + 0x1_0000 * t.tag as u32;
-    pair(low, t.length as u32 + 0x1_0000 * t.error as u32)
+    let low = u32::from(kind) + 0x100 * u32::from(t.number) + 0x1_0000 * u32::from(t.tag);
+    pair(low, u32::from(t.length) + 0x1_0000 * u32::from(t.error))
 }
 
 // The sums of a region and of a buffer.
+#[tactic(auto, unfolding(crate::specs::Sums::bytes_word))]
 pub fn bytes_word(region: &[u8], buffer: &[u8]) -> u64
     ensures { result ≡ bytes_word region.now buffer.now }
 {
-    pair(mix_bytes(0, region), mix_bytes(0, buffer))
-}
-
-fn reply_sum(sum: u32, reply: Reply) -> u32
-    ensures { result ≡ mix_wide (mix_wide sum (told_word 0 (told_of reply.answer))) (party_word reply.party) }
-{
-    let party = reply.party;
-    let answer = reply.answer;
-    let answered = mix_wide(sum, told_word(0, Told::from(answer)));
-    mix_wide(answered, party_word(party))
+    pair(Sum(0).mix_bytes(region).0, Sum(0).mix_bytes(buffer).0)
 }
 
 // What came of an attach, summed up with what came of those before it.
+#[tactic(auto, unfolding(crate::specs::Sums::came_sum))]
 pub fn came_sum(sum: u32, reply: Reply, region: &[u8]) -> u32
     ensures { result ≡ came_sum sum reply region.now }
 {
-    mix_bytes(reply_sum(sum, reply), region)
+    Sum(sum)
+        .mix_wide(told_word(0, Told::from(reply.answer)))
+        .mix_wide(party_word(reply.party))
+        .mix_bytes(region)
+        .0
 }
