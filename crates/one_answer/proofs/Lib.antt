@@ -39,3 +39,4 @@ pub mod Types
 pub mod Waits
 pub mod Words
 pub mod Both
+pub mod Refused

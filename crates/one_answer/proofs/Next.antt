@@ -6,8 +6,5 @@ use Rattle.next.proofs as code
 pub slot-access : OneAnswer code.slot_access.Kinds.ps code.slot_access.Kinds.r code.slot_access.Reads.Post
 slot-access κs a z z' ws ws' p q = (p ∙ sym q, refl)
 
-pub next-at : OneAnswer code.next_at.Kinds.ps code.next_at.Kinds.r code.next_at.Reads.Post
-next-at κs a z z' ws ws' p q = (p ∙ sym q, refl)
-
 pub next : OneAnswer code.next.Kinds.ps code.next.Kinds.r code.next.Reads.Post
 next κs a z z' ws ws' p q = (p ∙ sym q, refl)

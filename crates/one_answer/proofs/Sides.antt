@@ -6,9 +6,6 @@ use Rattle.sides.proofs as code
 pub other : OneAnswer code.other.Kinds.ps code.other.Kinds.r code.other.Reads.Post
 other κs a z z' ws ws' p q = (p ∙ sym q, refl)
 
-pub same-side : OneAnswer code.same_side.Kinds.ps code.same_side.Kinds.r code.same_side.Reads.Post
-same-side κs a z z' ws ws' p q = (p ∙ sym q, refl)
-
 pub used : OneAnswer code.used.Kinds.ps code.used.Kinds.r code.used.Reads.Post
 used κs a z z' ws ws' p q = (p ∙ sym q, refl)
 

@@ -9,5 +9,11 @@ told-from-answer κs a z z' ws ws' p q = (p ∙ sym q, refl)
 pub answer-from-refusal : OneAnswer code.AnswerFromRefusal.from.Kinds.ps code.AnswerFromRefusal.from.Kinds.r code.AnswerFromRefusal.from.Reads.Post
 answer-from-refusal κs a z z' ws ws' p q = (p ∙ sym q, refl)
 
+pub answer-from-outcome : OneAnswer code.AnswerFromResultRefusal.from.Kinds.ps code.AnswerFromResultRefusal.from.Kinds.r code.AnswerFromResultRefusal.from.Reads.Post
+answer-from-outcome κs a z z' ws ws' p q = (p ∙ sym q, refl)
+
+pub refusal-unless : OneAnswer code.Refusal.unless.Kinds.ps code.Refusal.unless.Kinds.r code.Refusal.unless.Reads.Post
+refusal-unless κs a z z' ws ws' p q = (p ∙ sym q, refl)
+
 pub both : OneAnswer code.both.Kinds.ps code.both.Kinds.r code.both.Reads.Post
 both κs a z z' ws ws' p q = (p ∙ sym q, refl)
