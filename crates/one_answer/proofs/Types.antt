@@ -14,6 +14,3 @@ answer-from-outcome κs a z z' ws ws' p q = (p ∙ sym q, refl)
 
 pub refusal-unless : OneAnswer code.Refusal.unless.Kinds.ps code.Refusal.unless.Kinds.r code.Refusal.unless.Reads.Post
 refusal-unless κs a z z' ws ws' p q = (p ∙ sym q, refl)
-
-pub both : OneAnswer code.both.Kinds.ps code.both.Kinds.r code.both.Reads.Post
-both κs a z z' ws ws' p q = (p ∙ sym q, refl)

@@ -1,7 +1,7 @@
 // The declared types: a party and what it is told. One party struct and one step enum serve both sides.
 #![tactic(auto)]
 
-ghost use Rattle.std.specs.Prelude.{◌≡◌, ◌&&◌, Ok, Err};
+ghost use Rattle.std.specs.Prelude.{◌≡◌, Ok, Err};
 ghost use Rattle.types.specs.Answers.{told_of};
 ghost use Rattle.types.specs.Pick.{pick};
 ghost use Rattle.types.specs.Refusals.{refused_with, answered};
@@ -63,7 +63,8 @@ pub enum Step {
 }
 
 // What a party keeps from its attach on: its own copy of sizes and options, never read from the region again, and how
-// often it spins before it sleeps.
+// often it spins before it sleeps. `attached` is a flag and no Option round the others: a record may be lent with whatever
+// terms, attached or not, and 20 tests them one by one (`sound`).
 #[derive(Clone, Copy, PartialEq, Eq)]
 pub struct Own {
     pub side: Side,
@@ -96,7 +97,7 @@ pub struct SlotHead {
 }
 
 // Document 01's answers. Done carries the length and the tag of the note that a pop took, and zeros for every other
-// call; OutputTooSmall the length needed; Syscall the operation and its error.
+// call; OutputTooSmall the length needed; Syscall the operation's number, as `told` has it for any, and its error.
 #[derive(Clone, Copy, PartialEq, Eq)]
 pub enum Answer {
     Done(u16, u16),
@@ -126,7 +127,7 @@ pub enum Answer {
 }
 
 // The one shared access of a turn, with its word and its value. A slot is named by the counter that it belongs to, a wake
-// by its bell and how many it wakes.
+// by its bell and how many it wakes. None is one row of eleven: an Option would put Some into the ten others of each table.
 #[derive(Clone, Copy, PartialEq, Eq)]
 pub enum Access {
     None,
@@ -344,11 +345,4 @@ impl From<Answer> for Told {
             Answer::GoesOn => with_values(255, 0, 0, 0),
         }
     }
-}
-
-// A chain of tests is a line of calls of this: `&&` would branch at each.
-pub fn both(a: bool, b: bool) -> bool
-    ensures { result ≡ (a && b) }
-{
-    if a { b } else { false }
 }
