@@ -97,7 +97,7 @@ pub struct SlotHead {
 }
 
 // Document 01's answers. Done carries the length and the tag of the note that a pop took, and zeros for every other
-// call; OutputTooSmall the length needed; Syscall the operation's number, as `told` has it for any, and its error.
+// call; OutputTooSmall the length needed; Syscall the operation's number, as `told_of` has it for any, and its error.
 #[derive(Clone, Copy, PartialEq, Eq)]
 pub enum Answer {
     Done(u16, u16),
