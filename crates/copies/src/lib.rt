@@ -5,7 +5,7 @@ ghost use Rattle.std.specs.Prelude.{◌≡◌, true, ◌+◌, ◌≤◌, length}
 ghost use Rattle.words.specs.Bytes.{part};
 ghost use Rattle.layout.specs.Limits.{slot_head_bytes, power_ok, payload_capacity};
 ghost use Rattle.layout.specs.Slots.{head_word, slot_put};
-ghost use Rattle.rules.specs.Access.{place_of, slot_of, copied_out, read_out};
+ghost use Rattle.rules.specs.Access.{place_of, slot_of, read_out};
 ghost use Rattle.copies.specs.Sized.{Sized};
 
 use types::{Fit, Own};
@@ -24,20 +24,7 @@ pub fn write_slot(region: &mut [u8], own: Own, count: u64, tag: u16, payload: &[
     ensures { region.new ≡ slot_put region.old (place_of own count) tag payload.now }
 {
     let at = place(own, count);
-    let size = own.slot as usize;
-    fills::write_at(region, at, size, tag, payload);
-}
-
-// The payload of the slot of size bytes at at, where it fits.
-fn deliver(f: Fit, region: &[u8], at: usize, size: usize, count: usize, buffer: &mut [u8])
-    requires { (at + size ≤ length region.now) × (f ≡ Fit.Fits → (slot_head_bytes + count ≤ size) × (count ≤ length buffer.old)) }
-    ensures { buffer.new ≡ copied_out f buffer.old (part region.now at size) count }
-{
-    match f {
-        Fit::Bad => {}
-        Fit::Small => {}
-        Fit::Fits => slots::payload_at(region, at, size, count, buffer),
-    }
+    fills::write_at(region, at, own.slot as usize, tag, payload);
 }
 
 // A pop's copy out of the slot of a counter: its header as one word, and the payload where it fits.
@@ -51,7 +38,8 @@ pub fn read_slot(region: &[u8], own: Own, count: u64, named: u32, buffer: &mut [
     let word = slots::head_at(region, at, size);
     let head = slots::head_of(word);
     let most = sizes::payload_capacity(own.slot);
-    let f = looks::fit_of(head, most, named);
-    deliver(f, region, at, size, head.length as usize, buffer);
+    if let Fit::Fits = looks::fit_of(head, most, named) {
+        slots::payload_at(region, at, size, usize::from(head.length), buffer);
+    }
     word
 }
