@@ -6,33 +6,29 @@ ghost use Rattle.rules.specs.Access.{value_of, leaves_of, buffer_of};
 ghost use Rattle.access.specs.Fitted.{Fitted};
 
 use header::Header;
-use types::{Access, Own};
+use types::{Access, Party};
+use words::Word;
 
-// A push's tag and payload, and a pop's named length and buffer, are for the copies.
-pub fn perform(
-    region: &mut [u8],
-    own: Own,
-    a: Access,
-    tag: u16,
-    payload: &[u8],
-    named: u32,
-    buffer: &mut [u8],
-) -> u64
-    requires { Fitted own a (length region.old) (length payload.now) named (length buffer.old) }
-    ensures value { result ≡ value_of region.old own a }
-    ensures leaves { region.new ≡ leaves_of region.old own a tag payload.now }
-    ensures given { buffer.new ≡ buffer_of region.old own a named buffer.old }
+// A push's payload, and a pop's buffer, are for the copies, with the tag and the length that the party named.
+#[tactic(auto, unfolding(rules::specs::Access::value_of, rules::specs::Access::leaves_of, rules::specs::Access::buffer_of, layout::specs::Limits::total_bytes))]
+pub fn perform(region: &mut [u8], p: Party, a: Access, payload: &[u8], buffer: &mut [u8]) -> u64
+    requires { Fitted p.own a (length region.old) (length payload.now) p.length (length buffer.old) }
+    ensures value { result ≡ value_of region.old p.own a }
+    ensures leaves { region.new ≡ leaves_of region.old p.own a p.tag payload.now }
+    ensures given { buffer.new ≡ buffer_of region.old p.own a p.length buffer.old }
 {
     match a {
-        Access::None => 0,
-        Access::LoadCounter(side) => Header::counter(region, side),
-        Access::LoadFlags => Header::flags(region) as u64,
-        Access::LoadBell(b) => Header::bell(region, b) as u64,
+        Access::None | Access::WakeBell(_, _) => 0,
+        Access::LoadCounter(side) => u64::load(region, Header::counter_at(side)),
+        Access::LoadFlags => u64::from(u32::load(region, Header::FLAGS)),
+        Access::LoadBell(b) | Access::WaitBell(b, _) => {
+            u64::from(u32::load(region, Header::bell_at(b)))
+        }
         Access::WriteSlot(count) => {
-            copies::write_slot(region, own, count, tag, payload);
+            copies::write_slot(region, p.own, count, p.tag, payload);
             0
         }
-        Access::ReadSlot(count) => copies::read_slot(region, own, count, named, buffer),
+        Access::ReadSlot(count) => copies::read_slot(region, p.own, count, p.length, buffer),
         Access::StoreCounter(side, n) => {
             stores::publish(region, side, n);
             0
@@ -45,7 +41,5 @@ pub fn perform(
             stores::set_flag(region, m);
             0
         }
-        Access::WaitBell(b, _) => Header::bell(region, b) as u64,
-        Access::WakeBell(_, _) => 0,
     }
 }

@@ -1,17 +1,13 @@
--- What a party's own sizes have room for: the header and the slots in the region, a header in a slot.
+-- What a party's own sizes have room for: the slots in the region, a header in a slot.
 use Prim.Native.Nat.{ℕ, ◌+◌, ◌≤◌}
 use native.Mathlib.Omega.{arith}
 use Rattle.types.specs.declared.Own.{Own}
-use Rattle.layout.specs.Limits.{header_bytes, slot_head_bytes, total_bytes}
+use Rattle.layout.specs.Limits.{slot_head_bytes}
 use Rattle.layout.proofs.SizeLaws.{slot-least, slot-within}
 use Rattle.rules.specs.Access.{place_of}
 use Rattle.copies.specs.Sized.{Sized}
 
 module _ {own : Own} {region : ℕ} (s : Sized own region) where
-  pub header-in : header_bytes ≤ region
-  unfolding total_bytes
-  header-in = omega (arith, s.whole)
-
   pub place_in : (count : ℕ) → place_of own count + own.slot ≤ region
   place_in count = rw s.whole (slot-within own.power s.power_in own.slot count)
 
