@@ -15,7 +15,7 @@ pub fn act(region: &mut [u8], p: Party, payload: &[u8], buffer: &mut [u8], error
     ensures given { buffer.new ≡ act_buffer region.old p buffer.old }
 {
     let a = next::next(p);
-    let value = access::perform(region, p.own, a, p.tag, payload, p.length, buffer);
+    let value = access::perform(region, p, a, payload, buffer);
     let Reply { party, answer } = take::take(p, value, error);
     Turned {
         party,
