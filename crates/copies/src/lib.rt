@@ -1,9 +1,8 @@
 // The slot of a counter, copied in and out. A party goes by its own sizes and never by the region's.
 #![tactic(auto)]
 
-ghost use Rattle.std.specs.Prelude.{◌≡◌, true, ◌+◌, ◌≤◌, length};
-ghost use Rattle.words.specs.Bytes.{part};
-ghost use Rattle.layout.specs.Limits.{slot_head_bytes, power_ok, payload_capacity};
+ghost use Rattle.std.specs.Prelude.{◌≡◌, true, ◌≤◌, length};
+ghost use Rattle.layout.specs.Limits.{power_ok, payload_capacity};
 ghost use Rattle.layout.specs.Slots.{head_word, slot_put};
 ghost use Rattle.rules.specs.Access.{place_of, slot_of, read_out};
 ghost use Rattle.copies.specs.Sized.{Sized};

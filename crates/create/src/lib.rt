@@ -1,7 +1,7 @@
 // Creation of a region: a whole header, and no byte of the ring.
 #![tactic(auto)]
 
-ghost use Rattle.std.specs.Prelude.{◌≡◌, ◌+◌, length};
+ghost use Rattle.std.specs.Prelude.{◌≡◌, length};
 ghost use Rattle.types.specs.Refusals.{answered};
 ghost use Rattle.layout.specs.Create.{create_answer, first_flags, create_leaves};
 
