@@ -1,4 +1,5 @@
-// The words of a header that a turn stores: a counter, a bell, a flag.
+// The words of a header that a turn stores: a counter, a bell, a flag. Each asks that the region has room for a header,
+// and no type keeps that fact for them: of bytes that are lent on in a struct no proof says what comes back at its end.
 #![tactic(auto)]
 
 ghost use Rattle.std.specs.Prelude.{◌≡◌, ◌≤◌, length};
