@@ -1,5 +1,5 @@
 -- The script program's records: what one asks, and how an answer is reported.
-use Rattle.std.specs.Prelude.{Bool, ◌&&◌, List, [], ◌∷◌, ◌++◌, ℕ, ◌/◌, ◌%◌, leb, eqb, take, replicate}
+use Rattle.std.specs.Prelude.{Bool, ◌&&◌, List, [], ◌∷◌, ◌++◌, ℕ, ◌/◌, ◌%◌, Option, Some, None, option_and_then, leb, eqb, take, replicate}
 use Rattle.words.specs.Bytes.{part}
 use Rattle.words.specs.Le.{le_at, le_bytes}
 use Rattle.types.specs.Pick.{pick}
@@ -9,9 +9,8 @@ use Rattle.types.specs.declared.Told.{Told}
 use Rattle.types.specs.declared.Event.{Event}
 use Rattle.types.specs.declared.Event.TheVariants.{Turn, Failing, Spurious, TimeOut, Push, Pop, Close, Shutdown}
 use Rattle.records.specs.declared.Action.{Action}
-use Rattle.records.specs.declared.Action.TheVariants.{Turn as Turns, Spurious as Returns, TimeOut as Expires, Failing as Fails, Move, Close as Closes, Shutdown as Shuts, Unknown}
-use Rattle.records.specs.declared.Asked.{Asked}
-use Rattle.records.specs.declared.Asked.TheVariants.{Plays, Bad}
+use Rattle.records.specs.declared.Action.TheVariants.{Turn as Turns, Spurious as Returns, TimeOut as Expires, Failing as Fails, Move, Close as Closes, Shutdown as Shuts}
+use Rattle.records.specs.declared.Record.{Record}
 
 -- a record is 32 bytes: kind, mode, tag u16, length u16, error u16, 24 payload bytes
 abbrev pub record_bytes : ℕ
@@ -38,41 +37,48 @@ error_in s = le_at 2 s 6
 abbrev pub payload_in : List ℕ → List ℕ
 payload_in s = part s 8 payload_bytes
 
+-- what a record says before its payload
+abbrev pub fields_in : List ℕ → Record
+fields_in s = record { kind = kind_in s; mode = mode_in s; tag = tag_in s; length = length_in s; error = error_in s }
+
 -- kinds go in pairs, the sender's first: 0, 1 turn; 2, 3 spurious return; 4, 5 time-out; 6, 7 failing turn; 8, 9 push and
 -- pop; 10, 11 close; 12, 13 shutdown
-unfoldable pub action_of : (pair : ℕ) → Action
+unfoldable pub action_of : (pair : ℕ) → Option Action
 action_of pair =
-    pick (eqb pair 0) Turns
-    (pick (eqb pair 1) Returns
-    (pick (eqb pair 2) Expires
-    (pick (eqb pair 3) Fails
-    (pick (eqb pair 4) Move
-    (pick (eqb pair 5) Closes
-    (pick (eqb pair 6) Shuts Unknown))))))
+    pick (eqb pair 0) (Some Turns)
+    (pick (eqb pair 1) (Some Returns)
+    (pick (eqb pair 2) (Some Expires)
+    (pick (eqb pair 3) (Some Fails)
+    (pick (eqb pair 4) (Some Move)
+    (pick (eqb pair 5) (Some Closes)
+    (pick (eqb pair 6) (Some Shuts) None))))))
 
 abbrev pub side_of : (kind : ℕ) → Side
 side_of kind = pick (eqb (kind % 2) 0) Sender Recorder
 
+-- what a record asks: an event of the bench, or nothing that is known
+abbrev pub Asked : Type 0
+Asked = Option Event
+
 -- a mode is 0 or 1; a pop's buffer has at most 24 bytes
 abbrev pub when : Bool → Event → Asked
-when ok e = pick ok (Plays e) Bad
+when ok e = pick ok (Some e) None
 
-abbrev pub move_asked : Side → (mode tag length : ℕ) → Asked
-move_asked Sender mode tag length = when (leb mode 1) (Push (eqb mode 1) tag length)
-move_asked Recorder mode tag length = when (leb mode 1 && leb length payload_bytes) (Pop (eqb mode 1) length)
+abbrev pub move_asked : Side → Record → Asked
+move_asked Sender f = when (leb f.mode 1) (Push (eqb f.mode 1) f.tag f.length)
+move_asked Recorder f = when (leb f.mode 1 && leb f.length payload_bytes) (Pop (eqb f.mode 1) f.length)
 
-abbrev pub asked_at : Action → Side → (mode tag length error : ℕ) → Asked
-asked_at Turns side mode tag length error = Plays (Turn side)
-asked_at Returns side mode tag length error = Plays (Spurious side)
-asked_at Expires side mode tag length error = Plays (TimeOut side)
-asked_at Fails side mode tag length error = Plays (Failing side error)
-asked_at Move side mode tag length error = move_asked side mode tag length
-asked_at Closes side mode tag length error = Plays (Close side)
-asked_at Shuts side mode tag length error = Plays (Shutdown side)
-asked_at Unknown side mode tag length error = Bad
+abbrev pub asked_at : Action → Side → Record → Asked
+asked_at Turns side f = Some (Turn side)
+asked_at Returns side f = Some (Spurious side)
+asked_at Expires side f = Some (TimeOut side)
+asked_at Fails side f = Some (Failing side f.error)
+asked_at Move side f = move_asked side f
+asked_at Closes side f = Some (Close side)
+asked_at Shuts side f = Some (Shutdown side)
 
 unfoldable pub asked_in : List ℕ → Asked
-asked_in s = asked_at (action_of (kind_in s / 2)) (side_of (kind_in s)) (mode_in s) (tag_in s) (length_in s) (error_in s)
+asked_in s = option_and_then (λ a. asked_at a (side_of (kind_in s)) (fields_in s)) (action_of (kind_in s / 2))
 
 -- a delivered note's bytes are shown, and nothing else of a buffer; a report is filled up with zeros
 abbrev pub shown : Told → (buffer : List ℕ) → List ℕ

@@ -1,14 +1,72 @@
 // The script program's records: what one asks.
 #![tactic(auto)]
 
-ghost use Rattle.std.specs.Prelude.{◌≡◌, length};
-ghost use Rattle.records.specs.Records.{record_bytes, action_of, side_of, when, move_asked, asked_at, asked_in};
+ghost use Rattle.std.specs.Prelude.{◌≡◌, length, leb, eqb, Some, None};
+ghost use Rattle.types.specs.Pick.{pick};
+ghost use Rattle.records.specs.Records.{record_bytes, action_of, side_of, fields_in, move_asked, asked_at, asked_in};
 
 use types::{Event, Side};
 
-// Where the fields of a record lie, and of a report.
-#[derive(Clone, Copy)]
-pub struct Record {}
+// What a pair of kinds asks of the side that it names. Move is a push or a pop.
+#[derive(Clone, Copy, PartialEq, Eq)]
+pub enum Action {
+    Turn,
+    Spurious,
+    TimeOut,
+    Failing,
+    Move,
+    Close,
+    Shutdown,
+}
+
+// What a record asks: an event of the bench, or nothing that is known.
+pub type Asked = Option<Event>;
+
+#[tactic(auto, unfolding(crate::specs::Records::action_of))]
+pub fn action_of(pair: u8) -> Option<Action>
+    ensures { result ≡ action_of pair }
+{
+    match pair {
+        0 => Some(Action::Turn),
+        1 => Some(Action::Spurious),
+        2 => Some(Action::TimeOut),
+        3 => Some(Action::Failing),
+        4 => Some(Action::Move),
+        5 => Some(Action::Close),
+        6 => Some(Action::Shutdown),
+        _ => None,
+    }
+}
+
+pub fn side_of(kind: u8) -> Side
+    ensures { result ≡ side_of kind }
+{
+    match kind % 2 {
+        0 => Side::Sender,
+        _ => Side::Recorder,
+    }
+}
+
+// Whether a call blocks, by its mode.
+fn blocking_in(mode: u8) -> Option<bool>
+    ensures { result ≡ pick (leb mode 1) (Some (eqb mode 1)) None }
+{
+    match mode {
+        0 => Some(false),
+        1 => Some(true),
+        _ => None,
+    }
+}
+
+// What a record says before its payload, and where it lies; a report is laid out as a record is.
+#[derive(Clone, Copy, PartialEq, Eq)]
+pub struct Record {
+    pub kind: u8,
+    pub mode: u8,
+    pub tag: u16,
+    pub length: u16,
+    pub error: u16,
+}
 
 impl Record {
     pub const BYTES: usize = 32;
@@ -26,95 +84,54 @@ impl Record {
     pub const PAYLOAD: usize = 8;
 
     pub const PAYLOAD_BYTES: usize = 24;
-}
 
-// What a pair of kinds asks of the side that it names. Move is a push or a pop.
-#[derive(Clone, Copy)]
-pub enum Action {
-    Turn,
-    Spurious,
-    TimeOut,
-    Failing,
-    Move,
-    Close,
-    Shutdown,
-    Unknown,
-}
+    pub fn read(given: &[u8]) -> Self
+        requires { length given.now ≡ record_bytes }
+        ensures { result ≡ fields_in given.now }
+    {
+        Self {
+            kind: words::load8(given, Self::KIND),
+            mode: words::load8(given, Self::MODE),
+            tag: words::load16(given, Self::TAG),
+            length: words::load16(given, Self::LENGTH),
+            error: words::load16(given, Self::ERROR),
+        }
+    }
 
-// What a record asks: an event of the bench, or nothing that is known.
-#[derive(Clone, Copy)]
-pub enum Asked {
-    Plays(Event),
-    Bad,
-}
+    pub fn move_asked(self, side: Side) -> Asked
+        ensures { result ≡ move_asked side self }
+    {
+        let blocking = blocking_in(self.mode)?;
+        let length = u32::from(self.length);
+        match side {
+            Side::Sender => Some(Event::Push(blocking, self.tag, length)),
+            Side::Recorder => {
+                let fits = usize::from(self.length) <= Self::PAYLOAD_BYTES;
+                fits.then_some(Event::Pop(blocking, length))
+            }
+        }
+    }
 
-#[tactic(auto, unfolding(crate::specs::Records::action_of))]
-pub fn action_of(pair: u8) -> Action
-    ensures { result ≡ action_of pair }
-{
-    match pair {
-        0 => Action::Turn,
-        1 => Action::Spurious,
-        2 => Action::TimeOut,
-        3 => Action::Failing,
-        4 => Action::Move,
-        5 => Action::Close,
-        6 => Action::Shutdown,
-        _ => Action::Unknown,
+    pub fn asked_at(self, action: Action, side: Side) -> Asked
+        ensures { result ≡ asked_at action side self }
+    {
+        match action {
+            Action::Turn => Some(Event::Turn(side)),
+            Action::Spurious => Some(Event::Spurious(side)),
+            Action::TimeOut => Some(Event::TimeOut(side)),
+            Action::Failing => Some(Event::Failing(side, self.error)),
+            Action::Move => self.move_asked(side),
+            Action::Close => Some(Event::Close(side)),
+            Action::Shutdown => Some(Event::Shutdown(side)),
+        }
     }
 }
 
-pub fn side_of(kind: u8) -> Side
-    ensures { result ≡ side_of kind }
-{
-    let even = kind % 2 == 0;
-    if even { Side::Sender } else { Side::Recorder }
-}
-
-pub fn when(ok: bool, e: Event) -> Asked
-    ensures { result ≡ when ok e }
-{
-    if ok { Asked::Plays(e) } else { Asked::Bad }
-}
-
-pub fn move_asked(side: Side, mode: u8, tag: u16, length: u16) -> Asked
-    ensures { result ≡ move_asked side mode tag length }
-{
-    let known = mode <= 1;
-    let blocking = mode == 1;
-    let fits = length as usize <= Record::PAYLOAD_BYTES;
-    if !known {
-        return Asked::Bad;
-    }
-    match side {
-        Side::Sender => Asked::Plays(Event::Push(blocking, tag, length as u32)),
-        Side::Recorder => when(fits, Event::Pop(blocking, length as u32)),
-    }
-}
-
-pub fn asked_at(a: Action, side: Side, mode: u8, tag: u16, length: u16, error: u16) -> Asked
-    ensures { result ≡ asked_at a side mode tag length error }
-{
-    match a {
-        Action::Turn => Asked::Plays(Event::Turn(side)),
-        Action::Spurious => Asked::Plays(Event::Spurious(side)),
-        Action::TimeOut => Asked::Plays(Event::TimeOut(side)),
-        Action::Failing => Asked::Plays(Event::Failing(side, error)),
-        Action::Move => move_asked(side, mode, tag, length),
-        Action::Close => Asked::Plays(Event::Close(side)),
-        Action::Shutdown => Asked::Plays(Event::Shutdown(side)),
-        Action::Unknown => Asked::Bad,
-    }
-}
-
+#[tactic(auto, unfolding(crate::specs::Records::asked_in))]
 pub fn asked_in(given: &[u8]) -> Asked
     requires { length given.now ≡ record_bytes }
     ensures { result ≡ asked_in given.now }
 {
-    let kind = words::load8(given, Record::KIND);
-    let mode = words::load8(given, Record::MODE);
-    let tag = words::load16(given, Record::TAG);
-    let length = words::load16(given, Record::LENGTH);
-    let error = words::load16(given, Record::ERROR);
-    asked_at(action_of(kind / 2), side_of(kind), mode, tag, length, error)
+    let record = Record::read(given);
+    record.asked_at(action_of(record.kind / 2)?, side_of(record.kind))
 }
