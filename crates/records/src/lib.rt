@@ -6,6 +6,7 @@ ghost use Rattle.types.specs.Pick.{pick};
 ghost use Rattle.records.specs.Records.{record_bytes, action_of, side_of, fields_in, move_asked, asked_at, asked_in};
 
 use types::{Event, Side};
+use words::Word;
 
 // What a pair of kinds asks of the side that it names. Move is a push or a pop.
 #[derive(Clone, Copy, PartialEq, Eq)]
@@ -90,11 +91,11 @@ impl Record {
         ensures { result ≡ fields_in given.now }
     {
         Self {
-            kind: words::load8(given, Self::KIND),
-            mode: words::load8(given, Self::MODE),
-            tag: words::load16(given, Self::TAG),
-            length: words::load16(given, Self::LENGTH),
-            error: words::load16(given, Self::ERROR),
+            kind: u8::load(given, Self::KIND),
+            mode: u8::load(given, Self::MODE),
+            tag: u16::load(given, Self::TAG),
+            length: u16::load(given, Self::LENGTH),
+            error: u16::load(given, Self::ERROR),
         }
     }
 
