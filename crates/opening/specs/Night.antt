@@ -6,6 +6,7 @@ use Rattle.layout.specs.Limits.{total_bytes}
 use Rattle.layout.specs.Create.{created}
 use Rattle.layout.specs.Attach.{attach_reply, attach_leaves}
 use Rattle.records.specs.Records.{payload_bytes}
+use Rattle.opening.specs.declared.Player.{Player}
 
 -- what the program keeps between two records: the region, both parties, the running push's payload and the pop's buffer,
 -- 24 bytes each
@@ -15,8 +16,8 @@ pub record Night : Type 0 where
   pub payload : List ℕ
   pub buffer : List ℕ
 
-abbrev pub night_of : (region : List ℕ) → Bench → (payload buffer : List ℕ) → Night
-night_of region b payload buffer = record { region = region; bench = b; payload = payload; buffer = buffer }
+abbrev pub night_of : (region : List ℕ) → Player → Night
+night_of region p = record { region = region; bench = p.bench; payload = p.payload; buffer = p.buffer }
 
 -- power 2, slot 32, not-full on, both attached, neither of which spins
 abbrev pub power : ℕ

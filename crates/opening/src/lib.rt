@@ -1,39 +1,37 @@
 // How a script begins: on a fresh region, with both parties attached, neither of which spins.
 #![tactic(auto)]
 
-ghost use Rattle.std.specs.Prelude.{◌≡◌, length, replicate};
+ghost use Rattle.std.specs.Prelude.{◌≡◌};
 ghost use Rattle.opening.specs.Night.{night_of, start};
 
+use records::Record;
 use types::{Bench, Side};
 
 // The region that a script is played on.
+const POWER: u8 = 2;
+
+const SLOT: u32 = 32;
+
+// What a script's player keeps between two records beside the region, which is lent to it: both parties, the running push's
+// payload and the pop's buffer.
 #[derive(Clone, Copy)]
-struct Region {}
-
-impl Region {
-    const POWER: u8 = 2;
-
-    const SLOT: u32 = 32;
-}
-
-fn wipe(s: &mut [u8])
-    ensures { s.new ≡ replicate (length s.old) 0 }
-{
-    let n = s.len();
-    runs::clear(s, n);
+pub struct Player {
+    pub bench: Bench,
+    pub payload: [u8; 24],
+    pub buffer: [u8; 24],
 }
 
 // A fresh night: the region created, both parties attached, nothing pushed and nothing popped.
-pub fn start(region: &mut [u8; 512], payload: &mut [u8; 24], buffer: &mut [u8; 24]) -> Bench
-    ensures { night_of region.new result payload.new buffer.new ≡ start }
+pub fn start(region: &mut [u8; 512]) -> Player
+    ensures { night_of region.new result ≡ start }
 {
-    wipe(payload);
-    wipe(buffer);
-    wipe(region);
-    create::create(region, Region::POWER, Region::SLOT, true, 0);
-    let first = attach::attach(region, Side::Sender, 0);
-    let second = attach::attach(region, Side::Recorder, 0);
-    let sender = first.party;
-    let recorder = second.party;
-    Bench { sender, recorder }
+    *region = [0; 512];
+    let _ = create::create(region, POWER, SLOT, true, 0);
+    let sender = attach::attach(region, Side::Sender, 0).party;
+    let recorder = attach::attach(region, Side::Recorder, 0).party;
+    Player {
+        bench: Bench { sender, recorder },
+        payload: [0; Record::PAYLOAD_BYTES],
+        buffer: [0; Record::PAYLOAD_BYTES],
+    }
 }
