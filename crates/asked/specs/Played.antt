@@ -1,11 +1,10 @@
 -- What a record asks, played: what becomes of the bench, of the region and of the buffer.
-use Rattle.std.specs.Prelude.{List, ◌++◌, ℕ, take, drop}
+use Rattle.std.specs.Prelude.{List, ◌++◌, ℕ, Some, None, take, drop}
 use Rattle.types.specs.declared.Played.{Played}
 use Rattle.types.specs.declared.Answer.TheVariants.{BadCall}
 use Rattle.rules.specs.Bench.{played, played_leaves, played_buffer}
 use Rattle.opening.specs.Night.{Night}
-use Rattle.records.specs.declared.Asked.{Asked}
-use Rattle.records.specs.declared.Asked.TheVariants.{Plays, Bad}
+use Rattle.records.specs.Records.{Asked}
 
 -- a turn is lent as much of payload and buffer as the calls named
 abbrev pub lent_in : Night → List ℕ
@@ -15,13 +14,13 @@ abbrev pub lent_out : Night → List ℕ
 lent_out w = take w.bench.recorder.length w.buffer
 
 unfoldable pub played_by : Asked → Night → Played
-played_by (Plays e) w = played w.region w.bench (lent_in w) (lent_out w) e
-played_by Bad w = record { bench = w.bench; answer = BadCall }
+played_by (Some e) w = played w.region w.bench (lent_in w) (lent_out w) e
+played_by None w = record { bench = w.bench; answer = BadCall }
 
 unfoldable pub region_by : Asked → Night → List ℕ
-region_by (Plays e) w = played_leaves w.region w.bench (lent_in w) (lent_out w) e
-region_by Bad w = w.region
+region_by (Some e) w = played_leaves w.region w.bench (lent_in w) (lent_out w) e
+region_by None w = w.region
 
 unfoldable pub buffer_by : Asked → Night → List ℕ
-buffer_by (Plays e) w = played_buffer w.region w.bench (lent_in w) (lent_out w) e ++ drop w.bench.recorder.length w.buffer
-buffer_by Bad w = w.buffer
+buffer_by (Some e) w = played_buffer w.region w.bench (lent_in w) (lent_out w) e ++ drop w.bench.recorder.length w.buffer
+buffer_by None w = w.buffer
