@@ -1,10 +1,22 @@
 -- The whole report of a whole script.
-use Rattle.std.specs.Prelude.{◌&&◌, List, [], ◌++◌, ℕ, zero, suc, ◌/◌, ◌%◌, eqb, length, take, drop}
+use Rattle.std.specs.Prelude.{Bool, true, false, ◌&&◌, Some, List, [], ◌++◌, ℕ, zero, suc, ◌/◌, ◌%◌, eqb, length, take, drop}
 use Rattle.types.specs.Pick.{pick}
+use Rattle.types.specs.declared.Event.TheVariants.{Push}
+use Rattle.types.specs.declared.Answer.{Answer}
+use Rattle.types.specs.declared.Answer.TheVariants.{Begun}
+use Rattle.records.specs.Records.{Asked}
 use Rattle.types.specs.Answers.{told_of, number}
 use Rattle.opening.specs.Night.{Night, start}
 pub use Rattle.asked.specs.Played.{played_by, region_by, buffer_by}
 use Rattle.records.specs.Records.{record_bytes, kind_in, payload_in, asked_in, report_of, cut_report}
+
+abbrev pub is_push : Asked → Bool
+is_push (Some (Push blocking tag length)) = true
+is_push _ = false
+
+abbrev pub is_begun : Answer → Bool
+is_begun Begun = true
+is_begun _ = false
 
 -- a push that was begun keeps its record's payload for its copy turn
 unfoldable pub payload_by : List ℕ → Night → List ℕ

@@ -3,44 +3,38 @@
 
 ghost use Rattle.std.specs.Prelude.{◌≡◌, ◌&&◌, length};
 ghost use Rattle.types.specs.Pick.{pick};
-ghost use Rattle.records.specs.Records.{record_bytes, payload_bytes, payload_in};
+ghost use Rattle.records.specs.Records.{record_bytes, payload_in};
 ghost use Rattle.opening.specs.Night.{night_of};
-ghost use Rattle.script.specs.Script.{after, reported};
+ghost use Rattle.script.specs.Script.{is_push, is_begun, after, reported};
 
-use records::Record;
-use types::{Bench, Told};
+use opening::Player;
+use records::{Asked, Record};
+use types::{Answer, Event, Told};
+use words::Word;
 
 // A push that was begun keeps its record's payload.
-fn keep(payload: &mut [u8], given: &[u8], push: bool, begun: bool)
-    requires { (length payload.old ≡ payload_bytes) × (length given.now ≡ record_bytes) }
-    ensures { payload.new ≡ pick (push && begun) (payload_in given.now) payload.old }
+fn keep(payload: &mut [u8; 24], given: &[u8], asked: Asked, answer: Answer)
+    requires { length given.now ≡ record_bytes }
+    ensures { payload.new ≡ pick (is_push asked && is_begun answer) (payload_in given.now) payload.old }
 {
-    if push {
-        if begun {
-            runs::copy_out(given, Record::PAYLOAD, Record::PAYLOAD_BYTES, payload);
-        }
+    if let (Some(Event::Push(..)), Answer::Begun) = (asked, answer) {
+        payload.copy_from_slice(&given[Record::PAYLOAD..]);
     }
 }
 
 // One record: what it asks is played, and reported.
-pub fn play_record(
-    region: &mut [u8],
-    b: Bench,
-    payload: &mut [u8],
-    buffer: &mut [u8],
-    given: &[u8],
-    out: &mut [u8],
-) -> Bench
-    requires { (length payload.old ≡ payload_bytes) × (length buffer.old ≡ payload_bytes) × (length given.now ≡ record_bytes) × (length out.old ≡ record_bytes) }
-    ensures leaves { night_of region.new result payload.new buffer.new ≡ after (night_of region.old b payload.old buffer.old) given.now }
-    ensures tells { out.new ≡ reported (night_of region.old b payload.old buffer.old) given.now }
+pub fn play_record(region: &mut [u8], player: &mut Player, given: &[u8], out: &mut [u8])
+    requires { (length given.now ≡ record_bytes) × (length out.old ≡ record_bytes) }
+    ensures leaves { night_of region.new player.new ≡ after (night_of region.old player.old) given.now }
+    ensures tells { out.new ≡ reported (night_of region.old player.old) given.now }
 {
-    let a = records::asked_in(given);
-    let played = asked::play_asked(region, b, a, payload, buffer);
-    let answer = played.answer;
-    let told = Told::from(answer);
-    let kind = words::load8(given, Record::KIND);
-    keep(payload, given, kind == 8, told.number == 254);
-    reports::report_of(kind, told, buffer, out);
-    played.bench
+    let asked = records::asked_in(given);
+    let answer = asked::play_asked(region, player, asked);
+    keep(&mut player.payload, given, asked, answer);
+    reports::report_of(
+        u8::load(given, Record::KIND),
+        Told::from(answer),
+        &player.buffer,
+        out,
+    );
 }
