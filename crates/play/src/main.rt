@@ -4,96 +4,63 @@
 
 ghost use Rattle.std.specs.Prelude.{◌≤◌, length};
 
-use night::Block;
-use std::io;
+use night::BLOCK;
 use std::io::Read;
+use std::{fmt, io};
 
 // No input takes as many reads: the loop ends where the input does.
 const READS: u64 = 0x4000_0000_0000_0000;
 
-// What a read gave: as many bytes as the input holds now, with those that were left; its end; or nothing, since it
-// failed, and why.
+// What failed, and why.
 #[derive(Clone, Copy)]
-enum Got {
-    Bytes(usize),
-    End,
-    Failed(io::Error),
+enum Failed {
+    Input(io::Error),
+    Output(io::Error),
 }
 
-fn read_behind(from: &mut impl Read, input: &mut [u8], left: usize) -> Got
+// As many bytes as the input holds now, with those that were left; none where it has ended.
+fn read_behind(from: &mut impl Read, input: &mut [u8], left: usize) -> Result<Option<usize>, Failed>
     requires { left ≤ length input.old }
 {
-    match from.read(&mut input[left..]) {
-        Ok(0) => Got::End,
-        Ok(got) => Got::Bytes(left + got),
-        Err(e) => Got::Failed(e),
-    }
+    let got = from.read(&mut input[left..]).map_err(Failed::Input)?;
+    Ok((got > 0).then_some(left + got))
 }
 
-// Writes a line to standard error: what failed, and why.
-fn fail(rt: &impl Eprint, what: &str, e: io::Error) {
-    let _ = eprintln!(rt; "play: {what}: {e}");
-}
-
-// False, with a message, where the reports cannot be written.
-fn tell(rt: &(impl Print + Eprint), reports: &[u8]) -> bool {
-    match rt.write_all(reports) {
-        Ok(()) => true,
-        Err(e) => {
-            fail(rt, "standard output", e);
-            false
-        }
-    }
+fn tell(rt: &impl Print, reports: &[u8]) -> Result<(), Failed> {
+    rt.write_all(reports).map_err(Failed::Output)
 }
 
 // The input has ended: what is left of it is a cut record.
-fn finish(rt: &(impl Print + Eprint), left: usize) {
-    let mut report = [0u8; 32];
-    if left > 0 {
-        reports::cut_report(&mut report);
-        tell(rt, &report);
+fn finish(rt: &impl Print, left: usize) -> Result<(), Failed> {
+    if left == 0 {
+        return Ok(());
     }
+    let mut report = [0u8; 32];
+    reports::cut_report(&mut report);
+    tell(rt, &report)
+}
+
+fn play(rt: &impl Print, from: &mut impl Read) -> Result<(), Failed> {
+    let mut region = [0u8; 512];
+    let mut player = opening::start(&mut region);
+    let mut input = [0u8; BLOCK];
+    let mut out = [0u8; BLOCK];
+    let mut left = 0;
+    for _ in 0..READS {
+        let Some(have) = read_behind(from, &mut input, left)? else {
+            return finish(rt, left);
+        };
+        let fed = night::feed(&mut region, &mut player, &mut input, have, &mut out);
+        tell(rt, &out[..fed.told])?;
+        left = fed.left;
+    }
+    Ok(())
 }
 
 fn main(rt: HostRuntime) {
-    let mut region = [0u8; 512];
-    let mut payload = [0u8; 24];
-    let mut buffer = [0u8; 24];
-    let mut input = [0u8; Block::BYTES];
-    let mut out = [0u8; Block::BYTES];
-    let mut stdin = rt.stdin();
-    let mut bench = opening::start(&mut region, &mut payload, &mut buffer);
-    let mut left: usize = 0;
-    let mut reads: u64 = 0;
-    while reads < READS {
-        let got = read_behind(&mut stdin, &mut input, left);
-        match got {
-            Got::Bytes(have) => {
-                let fed = night::feed(
-                    &mut region,
-                    bench,
-                    &mut payload,
-                    &mut buffer,
-                    &mut input,
-                    have,
-                    &mut out,
-                );
-                let told = fed.told;
-                if !tell(&rt, &out[..told]) {
-                    return;
-                }
-                bench = fed.bench;
-                left = fed.left;
-            }
-            Got::End => {
-                finish(&rt, left);
-                return;
-            }
-            Got::Failed(e) => {
-                fail(&rt, "standard input", e);
-                return;
-            }
-        }
-        reads += 1;
-    }
+    let _ = match play(&rt, &mut rt.stdin()) {
+        Ok(()) => Ok(()),
+        Err(Failed::Input(e)) => eprintln!(rt; "play: standard input: {e}"),
+        Err(Failed::Output(e)) => eprintln!(rt; "play: standard output: {e}"),
+    };
 }
