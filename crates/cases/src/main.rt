@@ -7,13 +7,14 @@ ghost use Rattle.std.specs.Prelude.{◌≤◌, length};
 
 mod kinds;
 
+use kinds::Case;
+use std::io;
 use std::io::Read;
-use types::{Answer, Bench, Party, Played, Side, Told};
+use types::{Bench, Party, Played, Side, Told};
+use words::Word;
 
 // No input takes as many reads: the loop ends where the input does.
 const READS: u64 = 0x4000_0000_0000_0000;
-
-const CASE: usize = 24;
 
 // A report: kind, number, tag, length and error of the answer; for either party its step and the sum of its record; the
 // sums of region and buffer.
@@ -23,40 +24,6 @@ const REPORT: usize = 32;
 const REGION: usize = 131456;
 
 const ROOM: u32 = 65536;
-
-// A case record, and how many of its bytes were read. What kind, part, tag, number and value mean goes by the kind; the
-// others are how much of region, payload and buffer is lent.
-#[derive(Clone, Copy)]
-struct Case {
-    got: usize,
-    kind: u8,
-    part: u8,
-    tag: u16,
-    number: u32,
-    value: u64,
-    region: u32,
-    lent: u32,
-}
-
-fn case_of(got: usize, head: u64, value: u64, sizes: u64) -> Case {
-    Case {
-        got,
-        kind: (head % 0x100) as u8,
-        part: (head / 0x100 % 0x100) as u8,
-        tag: (head / 0x1_0000 % 0x1_0000) as u16,
-        number: (head / 0x1_0000_0000) as u32,
-        value,
-        region: (sizes % 0x1_0000_0000) as u32,
-        lent: (sizes / 0x1_0000_0000) as u32,
-    }
-}
-
-// The input has ended: what is left of it is a cut record.
-fn finish(rt: &impl Eprint, got: usize) {
-    if 0 < got {
-        let _ = eprintln!(rt; "cases: the last record is cut");
-    }
-}
 
 // Reads until given is full, the input ends or a read fails, and says how many bytes came.
 fn read_full(from: &mut impl Read, given: &mut [u8]) -> usize
@@ -72,42 +39,14 @@ fn read_full(from: &mut impl Read, given: &mut [u8]) -> usize
     got
 }
 
-fn read_case(from: &mut impl Read) -> Case {
-    let mut given = [0xFFu8; CASE];
+// The next record; none where the input has ended, with a message where what is left of it is a cut record.
+fn next_case(rt: &impl Eprint, from: &mut impl Read) -> Option<Case> {
+    let mut given = [0u8; Case::BYTES];
     let got = read_full(from, &mut given);
-    case_of(
-        got,
-        words::load64(&given, 0),
-        words::load64(&given, 8),
-        words::load64(&given, 16),
-    )
-}
-
-fn tell(rt: &(impl Print + Eprint), answer: u64, sender: u64, recorder: u64, bytes: u64) -> bool {
-    let mut out = [0u8; REPORT];
-    words::store64(&mut out, 0, answer);
-    words::store64(&mut out, 8, sender);
-    words::store64(&mut out, 16, recorder);
-    words::store64(&mut out, 24, bytes);
-    match rt.write_all(&out) {
-        Ok(()) => true,
-        Err(e) => {
-            let _ = eprintln!(rt; "cases: standard output: {e}");
-            false
-        }
+    if 0 < got && got < Case::BYTES {
+        let _ = eprintln!(rt; "cases: the last record is cut");
     }
-}
-
-fn tell_all(rt: &(impl Print + Eprint), kind: u8, answer: Answer, both: Bench, bytes: u64) -> bool {
-    let sender = both.sender;
-    let recorder = both.recorder;
-    tell(
-        rt,
-        sums::told_word(kind, Told::from(answer)),
-        sums::party_word(sender),
-        sums::party_word(recorder),
-        bytes,
-    )
+    (got == Case::BYTES).then_some(Case::read(&given))
 }
 
 // What came of a record, with the sums of the region and of the buffer that it was lent.
@@ -126,49 +65,48 @@ fn played(region: &mut [u8], payload: &[u8], both: Bench, c: Case) -> Came {
     Came { played, bytes }
 }
 
-// False where no record is left to report, or the report cannot be written.
-fn report(rt: &(impl Print + Eprint), c: Case, came: Came) -> bool {
-    if c.got < CASE {
-        finish(rt, c.got);
-        return false;
+fn report(rt: &impl Print, kind: u8, came: Came) -> io::Result<()> {
+    let played = came.played;
+    let words = [
+        sums::told_word(kind, Told::from(played.answer)),
+        sums::party_word(played.bench.sender),
+        sums::party_word(played.bench.recorder),
+        came.bytes,
+    ];
+    let mut out = [0u8; REPORT];
+    for (word, place) in words.iter().zip(out.chunks_exact_mut(8)) {
+        word.store(place, 0);
     }
-    let s = came.played;
-    let answer = s.answer;
-    tell_all(rt, c.kind, answer, s.bench, came.bytes)
+    rt.write_all(&out)
 }
 
 // A region of no bytes is refused, and gives the record of a party not attached.
 fn stranger(side: Side) -> Party {
-    let mut none = [0u8; 0];
-    let reply = attach::attach(&mut none, side, 0);
-    reply.party
+    attach::attach(&mut [], side, 0).party
 }
 
-fn opened() -> Played {
-    let sender = stranger(Side::Sender);
-    let recorder = stranger(Side::Recorder);
-    let bench = Bench { sender, recorder };
-    Played {
-        bench,
-        answer: Answer::Nothing,
+fn play(rt: &(impl Print + Eprint), from: &mut impl Read) -> io::Result<()> {
+    let mut region = [0u8; REGION];
+    let mut payload = [0u8; ROOM as usize];
+    let mut both = Bench {
+        sender: stranger(Side::Sender),
+        recorder: stranger(Side::Recorder),
+    };
+    kinds::put(&mut payload, 0, ROOM, 0x4847_4645_4443_4241);
+    for _ in 0..READS {
+        let Some(c) = next_case(rt, from) else {
+            return Ok(());
+        };
+        let r = reports::within(c.region, &region);
+        let came = played(&mut region[..r], &payload, both, c);
+        both = came.played.bench;
+        report(rt, c.kind, came)?;
     }
+    Ok(())
 }
 
 fn main(rt: HostRuntime) {
-    let mut region = [0u8; REGION];
-    let mut payload = [0u8; ROOM as usize];
-    let mut stdin = rt.stdin();
-    let mut s = opened();
-    let mut reads: u64 = 0;
-    kinds::put(&mut payload, 0, ROOM, 0x4847_4645_4443_4241);
-    while reads < READS {
-        let c = read_case(&mut stdin);
-        let r = reports::within(c.region, &region);
-        let came = played(&mut region[..r], &payload, s.bench, c);
-        s = came.played;
-        if !report(&rt, c, came) {
-            return;
-        }
-        reads += 1;
+    if let Err(e) = play(&rt, &mut rt.stdin()) {
+        let _ = eprintln!(rt; "cases: standard output: {e}");
     }
 }

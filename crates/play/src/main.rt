@@ -5,8 +5,8 @@
 ghost use Rattle.std.specs.Prelude.{◌≤◌, length};
 
 use night::BLOCK;
+use std::io;
 use std::io::Read;
-use std::{fmt, io};
 
 // No input takes as many reads: the loop ends where the input does.
 const READS: u64 = 0x4000_0000_0000_0000;

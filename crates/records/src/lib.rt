@@ -86,7 +86,7 @@ impl Record {
 
     pub const PAYLOAD_BYTES: usize = 24;
 
-    pub fn read(given: &[u8]) -> Self
+    fn read(given: &[u8]) -> Self
         requires { length given.now ≡ record_bytes }
         ensures { result ≡ fields_in given.now }
     {

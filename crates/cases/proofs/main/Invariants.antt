@@ -1,8 +1,0 @@
-use Rattle.std.proofs.Common.{◌-◌, ◌^◌, ◌≤◌}
-use Rattle.cases.proofs.main.Given as goal
-
-abbrev pub invariant-loop-reads : goal.invariant-loop-reads
-invariant-loop-reads l = l.reads ≤ 2 ^ 62
-
-abbrev pub decreases-loop-reads : goal.decreases-loop-reads
-decreases-loop-reads l = 2 ^ 62 - l.reads
