@@ -9,14 +9,11 @@ action-of κs a z z' ws ws' p q = (p ∙ sym q, refl)
 pub side-of : OneAnswer code.side_of.Kinds.ps code.side_of.Kinds.r code.side_of.Reads.Post
 side-of κs a z z' ws ws' p q = (p ∙ sym q, refl)
 
-pub when : OneAnswer code.when.Kinds.ps code.when.Kinds.r code.when.Reads.Post
-when κs a z z' ws ws' p q = (p ∙ sym q, refl)
+pub record-move-asked : OneAnswer code.Record.move_asked.Kinds.ps code.Record.move_asked.Kinds.r code.Record.move_asked.Reads.Post
+record-move-asked κs a z z' ws ws' p q = (p ∙ sym q, refl)
 
-pub move-asked : OneAnswer code.move_asked.Kinds.ps code.move_asked.Kinds.r code.move_asked.Reads.Post
-move-asked κs a z z' ws ws' p q = (p ∙ sym q, refl)
-
-pub asked-at : OneAnswer code.asked_at.Kinds.ps code.asked_at.Kinds.r code.asked_at.Reads.Post
-asked-at κs a z z' ws ws' p q = (p ∙ sym q, refl)
+pub record-asked-at : OneAnswer code.Record.asked_at.Kinds.ps code.Record.asked_at.Kinds.r code.Record.asked_at.Reads.Post
+record-asked-at κs a z z' ws ws' p q = (p ∙ sym q, refl)
 
 pub asked_in : OneAnswer code.asked_in.Kinds.ps code.asked_in.Kinds.r code.asked_in.Reads.Post
 asked_in κs a z z' ws ws' p q = (p ∙ sym q, refl)

@@ -3,9 +3,6 @@ use mathlib.Core.Path.{refl, sym, ◌∙◌, ap}
 use Rattle.one_answer.specs.OneAnswer.{OneAnswer}
 use Rattle.reports.proofs as code
 
-pub least : OneAnswer code.least.Kinds.ps code.least.Kinds.r code.least.Reads.Post
-least κs a z z' ws ws' p q = (p.0 ∙ sym q.0, refl)
-
 pub lent : OneAnswer code.lent.Kinds.ps code.lent.Kinds.r code.lent.Reads.Post
 lent κs a z z' ws ws' p q = (p.0 ∙ sym q.0, refl)
 
