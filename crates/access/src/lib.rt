@@ -19,10 +19,10 @@ pub fn perform(region: &mut [u8], p: Party, a: Access, payload: &[u8], buffer: &
 {
     match a {
         Access::None | Access::WakeBell(_, _) => 0,
-        Access::LoadCounter(side) => u64::load(region, Header::counter_at(side)),
-        Access::LoadFlags => u64::from(u32::load(region, Header::FLAGS)),
+        Access::LoadCounter(side) => Header::read::<u64>(region, Header::counter_at(side)),
+        Access::LoadFlags => u64::from(Header::read::<u32>(region, Header::FLAGS)),
         Access::LoadBell(b) | Access::WaitBell(b, _) => {
-            u64::from(u32::load(region, Header::bell_at(b)))
+            u64::from(Header::read::<u32>(region, Header::bell_at(b)))
         }
         Access::WriteSlot(count) => {
             copies::write_slot(region, p.own, count, p.tag, payload);

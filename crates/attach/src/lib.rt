@@ -47,12 +47,12 @@ fn attached(region: &[u8], side: Side, spins: u16) -> Party
     let own = Own {
         side,
         attached: true,
-        power: u8::load(region, Header::POWER),
-        slot: u32::load(region, Header::SLOT_SIZE),
-        notfull: Header::notfull_on(u32::load(region, Header::FLAGS)),
+        power: Header::read::<u8>(region, Header::POWER),
+        slot: Header::read::<u32>(region, Header::SLOT_SIZE),
+        notfull: Header::notfull_on(Header::read::<u32>(region, Header::FLAGS)),
         spins,
     };
-    fresh(own, u64::load(region, Header::counter_at(side)))
+    fresh(own, Header::read::<u64>(region, Header::counter_at(side)))
 }
 
 // A count above the limit is refused before anything of the region is looked at, and a region too short for a header has

@@ -34,7 +34,8 @@ impl Region<'_> {
     fn version_ok(&self) -> bool
         ensures { result ≡ version_ok self.now.bytes.now }
     {
-        u16::load(self.bytes, Header::MAJOR) == 0 && u16::load(self.bytes, Header::MINOR) == 1
+        Header::read::<u16>(self.bytes, Header::MAJOR) == 0
+            && Header::read::<u16>(self.bytes, Header::MINOR) == 1
     }
 
     // The header is taken off the total size, since the sum of header and ring might wrap.
@@ -42,12 +43,12 @@ impl Region<'_> {
     fn sizes_ok(&self) -> bool
         ensures { result ≡ sizes_ok self.now.bytes.now }
     {
-        let total = u64::load(self.bytes, Header::TOTAL_SIZE);
-        let ring = u64::load(self.bytes, Header::RING_BYTES);
+        let total = Header::read::<u64>(self.bytes, Header::TOTAL_SIZE);
+        let ring = Header::read::<u64>(self.bytes, Header::RING_BYTES);
         total == self.bytes.len() as u64
-            && u64::load(self.bytes, Header::RING_OFFSET) == Limits::HEADER_BYTES
-            && u64::load(self.bytes, Header::ARENA_OFFSET) == 0
-            && u64::load(self.bytes, Header::ARENA_BYTES) == 0
+            && Header::read::<u64>(self.bytes, Header::RING_OFFSET) == Limits::HEADER_BYTES
+            && Header::read::<u64>(self.bytes, Header::ARENA_OFFSET) == 0
+            && Header::read::<u64>(self.bytes, Header::ARENA_BYTES) == 0
             && total.checked_sub(Limits::HEADER_BYTES) == Some(ring)
     }
 
@@ -69,14 +70,14 @@ impl Region<'_> {
     fn check_ring(&self, side: Side) -> Result<(), Refusal>
         ensures { answered result ≡ first_of (ring_checks self.now.bytes.now side) }
     {
-        let slot = u32::load(self.bytes, Header::SLOT_SIZE);
-        let power = u8::load(self.bytes, Header::POWER);
-        let ring = u64::load(self.bytes, Header::RING_BYTES);
+        let slot = Header::read::<u32>(self.bytes, Header::SLOT_SIZE);
+        let power = Header::read::<u8>(self.bytes, Header::POWER);
+        let ring = Header::read::<u64>(self.bytes, Header::RING_BYTES);
         Refusal::InvalidSlotSize.unless(sizes::slot_ok(slot))?;
         Refusal::InvalidCapacity.unless(sizes::power_ok(power))?;
         Refusal::InvalidLayout.unless(ring == sizes::ring_bytes(power, slot))?;
         Refusal::InvalidLayout.unless(self.reserved_ok())?;
-        check_flags(u32::load(self.bytes, Header::FLAGS), side)
+        check_flags(Header::read::<u32>(self.bytes, Header::FLAGS), side)
     }
 }
 
@@ -87,7 +88,7 @@ pub fn check(region: &[u8], side: Side) -> Result<(), Refusal>
     ensures { answered result ≡ first_of (region_checks region.now side) }
 {
     let region = Region { bytes: region };
-    let header_size = u32::load(region.bytes, Header::HEADER_SIZE);
+    let header_size = Header::read::<u32>(region.bytes, Header::HEADER_SIZE);
     Refusal::InvalidMagic.unless(scans::same_bytes(region.bytes, 0, &Header::MAGIC))?;
     Refusal::UnsupportedVersion.unless(region.version_ok())?;
     Refusal::InvalidHeaderSize.unless(header_size == Limits::HEADER_BYTES as u32)?;

@@ -1,12 +1,14 @@
-// The header of a region: where its fields lie, what its flags are worth, and functions that read and set a flag.
+// The header of a region: where its fields lie, what its flags are worth, and functions that read a field and set a flag.
 #![tactic(auto)]
 
-ghost use Rattle.std.specs.Prelude.{◌≡◌, ◌+◌, ◌<◌, ◌≤◌};
+ghost use Rattle.std.specs.Prelude.{◌≡◌, ◌+◌, ◌<◌, ◌≤◌, length};
+ghost use Rattle.words.specs.Le.{le_at};
 ghost use Rattle.layout.specs.Limits.{header_bytes};
 ghost use Rattle.layout.specs.Flags.{initialised, not_full_on, worth, bit_on, set_bit, attach_mark, close_mark};
 ghost use Rattle.layout.specs.Header.{counter_at, bell_at};
 
 use types::{Bell, Mark, Side};
+use words::Word;
 
 #[derive(Clone, Copy)]
 pub struct Header {}
@@ -69,6 +71,14 @@ impl Header {
 
     // The flags from this bit on are zero.
     pub const RESERVED_FROM: u32 = 0x80;
+
+    // The word of a field.
+    pub fn read<W: Word>(region: &[u8], field: usize) -> W
+        requires { field + W.bytes ≤ length region.now }
+        ensures { W.number result ≡ le_at W.bytes region.now field }
+    {
+        W::load(region, field)
+    }
 
     // Where a side's own counter lies.
     pub fn counter_at(side: Side) -> usize

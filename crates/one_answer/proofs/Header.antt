@@ -26,3 +26,6 @@ header-attach-mark κs a z z' ws ws' p q = (p ∙ sym q, refl)
 
 pub header-close-mark : OneAnswer code.Header.close_mark.Kinds.ps code.Header.close_mark.Kinds.r code.Header.close_mark.Reads.Post
 header-close-mark κs a z z' ws ws' p q = (p ∙ sym q, refl)
+
+pub header-read : OneAnswer code.Header.read.Kinds.ps code.Header.read.Kinds.r code.Header.read.Reads.Post
+header-read κs a z z' ws ws' p q = (p ∙ sym q, refl)

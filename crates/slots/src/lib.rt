@@ -25,12 +25,20 @@ impl Slot {
     pub const PAYLOAD: usize = 8;
 }
 
-// The header of the slot of size bytes at at, as one word.
+// The whole header as one word.
+pub fn read_head(slot: &[u8]) -> u64
+    requires { slot_head_bytes ≤ length slot.now }
+    ensures { result ≡ head_word slot.now }
+{
+    u64::load(slot, 0)
+}
+
+// The header of the slot of size bytes at at.
 pub fn head_at(region: &[u8], at: usize, size: usize) -> u64
     requires { (slot_head_bytes ≤ size) × (at + size ≤ length region.now) }
     ensures { result ≡ head_word (part region.now at size) }
 {
-    u64::load(&region[at..at + size], 0)
+    read_head(&region[at..at + size])
 }
 
 // Length, tag, slot flags and zero word of a header.
@@ -46,11 +54,19 @@ pub fn head_of(word: u64) -> SlotHead
     }
 }
 
-// Copies the first count bytes of the payload of the slot of size bytes at at to the buffer's start.
+// Copies the first count bytes of the payload to the buffer's start.
 #[tactic(auto, unfolding(layout::specs::Slots::buffer_put))]
+pub fn read_payload(slot: &[u8], count: usize, buffer: &mut [u8])
+    requires { (slot_head_bytes + count ≤ length slot.now) × (count ≤ length buffer.old) }
+    ensures { buffer.new ≡ buffer_put buffer.old slot.now count }
+{
+    runs::copy_out(slot, Slot::PAYLOAD, count, buffer);
+}
+
+// The same of the slot of size bytes at at.
 pub fn payload_at(region: &[u8], at: usize, size: usize, count: usize, buffer: &mut [u8])
     requires { (slot_head_bytes + count ≤ size) × (at + size ≤ length region.now) × (count ≤ length buffer.old) }
     ensures { buffer.new ≡ buffer_put buffer.old (part region.now at size) count }
 {
-    runs::copy_out(&region[at..at + size], Slot::PAYLOAD, count, buffer);
+    read_payload(&region[at..at + size], count, buffer);
 }

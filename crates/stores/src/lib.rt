@@ -35,6 +35,6 @@ pub fn set_flag(region: &mut [u8], m: Mark)
     requires { header_bytes ≤ length region.old }
     ensures { region.new ≡ put_le 4 region.old flags_at (set_bit (worth m) (le_at 4 region.old flags_at)) }
 {
-    let flags = u32::load(region, Header::FLAGS);
+    let flags = Header::read::<u32>(region, Header::FLAGS);
     Header::with_mark(flags, m).store(region, Header::FLAGS);
 }

@@ -21,6 +21,9 @@ pub trait Word: Copy {
     fn store(self, s: &mut [u8], i: usize)
         requires { i + bytes ≤ length s.old }
         ensures { s.new ≡ put_le bytes s.old i (number self) };
+
+    // A number is one word's.
+    ghost exact: { (x y : Self) → number x ≡ number y → x ≡ y };
 }
 
 impl Word for u8 {
@@ -35,6 +38,8 @@ impl Word for u8 {
     fn store(self, s: &mut [u8], i: usize) {
         s[i] = self;
     }
+
+    ghost exact = { λ x y e. e };
 }
 
 impl Word for u16 {
@@ -49,6 +54,8 @@ impl Word for u16 {
     fn store(self, s: &mut [u8], i: usize) {
         s[i..i + 2].copy_from_slice(&self.to_le_bytes());
     }
+
+    ghost exact = { λ x y e. e };
 }
 
 impl Word for u32 {
@@ -63,6 +70,8 @@ impl Word for u32 {
     fn store(self, s: &mut [u8], i: usize) {
         s[i..i + 4].copy_from_slice(&self.to_le_bytes());
     }
+
+    ghost exact = { λ x y e. e };
 }
 
 impl Word for u64 {
@@ -86,6 +95,8 @@ impl Word for u64 {
     fn store(self, s: &mut [u8], i: usize) {
         s[i..i + 8].copy_from_slice(&self.to_le_bytes());
     }
+
+    ghost exact = { λ x y e. e };
 }
 
 // A word that wraps: a counter, a bell.
