@@ -1,5 +1,10 @@
 -- One answer: crate `header`.
-use mathlib.Core.Path.{refl, sym, ◌∙◌}
+use mathlib.Core.Path.{◌≡◌, refl, sym, ◌∙◌}
+use denote.RattleType.{RattleType}
+use denote.Param.Laws.{Laws, IsCopy}
+use mir.Syntax.{Dict}
+use Rattle.std.specs.declared.clone.Clone
+use Rattle.words.specs.declared.Word
 use Rattle.one_answer.specs.OneAnswer.{OneAnswer}
 use Rattle.header.proofs as code
 
@@ -27,5 +32,8 @@ header-attach-mark κs a z z' ws ws' p q = (p ∙ sym q, refl)
 pub header-close-mark : OneAnswer code.Header.close_mark.Kinds.ps code.Header.close_mark.Kinds.r code.Header.close_mark.Reads.Post
 header-close-mark κs a z z' ws ws' p q = (p ∙ sym q, refl)
 
-pub header-read : OneAnswer code.Header.read.Kinds.ps code.Header.read.Kinds.r code.Header.read.Reads.Post
-header-read κs a z z' ws ws' p q = (p ∙ sym q, refl)
+-- at every width: a word's number is its own, which `Word` asks of each
+module _ (T : RattleType) (laws : Laws T) (copied : IsCopy T) (word : Word.Ghosts T.Denot) (word-code : Dict) (clone : Clone.Ghosts T.Denot) (clone-code : Dict) where
+  pub header-read : ((x y : T.Denot) → word.number x ≡ word.number y → x ≡ y)
+      → OneAnswer (code.Header.read.Kinds.ps T laws copied) (code.Header.read.Kinds.r T laws copied) (code.Header.read.Reads.Post T laws copied word word-code clone clone-code)
+  header-read exact κs a z z' ws ws' p q = (exact z z' (p ∙ sym q), refl)

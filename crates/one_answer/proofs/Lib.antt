@@ -39,4 +39,3 @@ pub mod Types
 pub mod Waits
 pub mod Words
 pub mod Both
-pub mod Refused

@@ -5,7 +5,7 @@ use Rattle.opening.specs.Night.{Night}
 use Rattle.one_answer.specs.OneAnswer.{OneAnswer}
 use Rattle.opening.proofs as code
 
-pub player_of : Night → Player
+abbrev pub player_of : Night → Player
 player_of n = record { bench = n.bench; payload = n.payload; buffer = n.buffer }
 
 pub start : OneAnswer code.start.Kinds.ps code.start.Kinds.r code.start.Reads.Post
