@@ -11,9 +11,9 @@ use native.Mathlib.Nat.{mod-lt, mul-le-mul_left, mul-le-mul_right, suc-mul}
 use borrow.Author.Tests.{leb-true, le-leb}
 use lib.Dec.{leb, eqb}
 use lib.Pow.{pow_mono}
+use Rattle.std.specs.Cmp.{first_so, second_so}
 use Rattle.types.specs.Pick.{pick}
 use Rattle.words.proofs.Sets.{Apart}
-use Rattle.words.proofs.Runs.{and_left, and_right}
 use Rattle.layout.specs.Limits.{least_power, most_power, least_slot, most_slot, slot_step, header_bytes, slot_head_bytes, power_ok, slot_ok, capacity, payload_capacity, ring_bytes, total_bytes}
 use Rattle.layout.specs.Slots.{slot_at}
 
@@ -37,13 +37,13 @@ ring-room power slot = mul-le-mul_right slot (capacity-room power)
 module _ (slot : ℕ) (ok : slot_ok slot ≡ true) where
   bounds : (leb least_slot slot && leb slot most_slot) ≡ true
   unfolding slot_ok
-  bounds = and_left (leb least_slot slot && leb slot most_slot) (eqb (slot % slot_step) 0) ok
+  bounds = first_so (leb least_slot slot && leb slot most_slot) (eqb (slot % slot_step) 0) ok
 
   pub slot-least : least_slot ≤ slot
-  slot-least = leb-true least_slot slot (and_left (leb least_slot slot) (leb slot most_slot) bounds)
+  slot-least = leb-true least_slot slot (first_so (leb least_slot slot) (leb slot most_slot) bounds)
 
   pub slot-most : slot ≤ most_slot
-  slot-most = leb-true slot most_slot (and_right (leb least_slot slot) (leb slot most_slot) bounds)
+  slot-most = leb-true slot most_slot (second_so (leb least_slot slot) (leb slot most_slot) bounds)
 
   pub total-most : (power : ℕ) → total_bytes power slot ≤ total_bytes most_power most_slot
   unfolding total_bytes ring_bytes
@@ -61,11 +61,11 @@ module _ (slot : ℕ) (ok : slot_ok slot ≡ true) where
 module _ (power : ℕ) (ok : power_ok power ≡ true) where
   pub power-least : least_power ≤ power
   unfolding power_ok
-  power-least = leb-true least_power power (and_left (leb least_power power) (leb power most_power) ok)
+  power-least = leb-true least_power power (first_so (leb least_power power) (leb power most_power) ok)
 
   pub power-most : power ≤ most_power
   unfolding power_ok
-  power-most = leb-true power most_power (and_right (leb least_power power) (leb power most_power) ok)
+  power-most = leb-true power most_power (second_so (leb least_power power) (leb power most_power) ok)
 
   pub capacity-is : capacity power ≡ 2 ^ power
   unfolding capacity

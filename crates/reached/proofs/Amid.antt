@@ -5,6 +5,7 @@ use mathlib.Core.List.{List, [], ◌∷◌, ◌++◌}
 use Prim.Native.Nat.{ℕ}
 use native.Mathlib.Omega.{arith}
 use lib.ListN.{length, replicate}
+use Rattle.std.specs.Cmp.{first_so, second_so}
 use Rattle.types.specs.Pick.{pick}
 use Rattle.types.specs.declared.Side.TheVariants.{Sender, Recorder}
 use Rattle.types.specs.declared.Answer.TheVariants.{Done}
@@ -27,7 +28,6 @@ use Rattle.rules.specs.Turn.{goes, act_spec, act_leaves, act_buffer, turn_spec, 
 use Rattle.words.specs.Bytes.{zeros, bytes_are}
 use Rattle.words.specs.Le.{le_at, le_bytes, put_le}
 use Rattle.words.specs.Wrap.{plus, minus}
-use Rattle.words.proofs.Runs.{and_left, and_right}
 use Rattle.rules.specs.Run.{party_in, World, Happening, attaches, plays, opened}
 use Rattle.rules.specs.Premises.{AllTyped}
 use Rattle.rules.specs.Stretch.{moves, Wills, in_call}
@@ -64,13 +64,13 @@ wills (h ∷ hs) w = wills-one h w && wills hs (happens h w)
 
 wills-amid : (hs : List Happening) (w : World) → wills hs w ≡ true → WillingAmid Recorder hs w
 wills-amid [] w e = tt
-wills-amid (h ∷ hs) w e = (one, wills-amid hs (happens h w) (and_right (wills-one h w) _ e))
+wills-amid (h ∷ hs) w e = (one, wills-amid hs (happens h w) (second_so (wills-one h w) _ e))
   where
     one : done_by h ≡ Recorder → Wills Recorder h w
     one q =
         let both : (asks-one h && all_short w.trace.sent (party_in w Recorder).length) ≡ true =
-        subst (λ (b : Bool). pick b (asks-one h && all_short w.trace.sent (party_in w Recorder).length) true ≡ true) (ap (same_side Recorder) q) (and_left (wills-one h w) _ e) in
-        asks-will-one h w (and_left (asks-one h) _ both) (big-here w (and_right (asks-one h) _ both))
+        subst (λ (b : Bool). pick b (asks-one h && all_short w.trace.sent (party_in w Recorder).length) true ≡ true) (ap (same_side Recorder) q) (first_so (wills-one h w) _ e) in
+        asks-will-one h w (first_so (asks-one h) _ both) (big-here w (second_so (asks-one h) _ both))
 
 abbrev there : World
 there = run filled (opened four)

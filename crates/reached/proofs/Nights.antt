@@ -8,6 +8,7 @@ use native.Mathlib.Omega.{arith}
 use borrow.Author.Tests.{leb-true}
 use lib.Dec.{leb}
 use lib.ListN.{length, replicate}
+use Rattle.std.specs.Cmp.{first_so, second_so}
 use Rattle.types.specs.declared.Side.{Side}
 use Rattle.types.specs.declared.Side.TheVariants.{Sender, Recorder}
 use Rattle.types.specs.declared.Step.TheVariants.{Rest}
@@ -29,7 +30,6 @@ use Rattle.rules.specs.Turn.{goes, act_spec, act_leaves, act_buffer, turn_spec, 
 use Rattle.words.specs.Bytes.{zeros, bytes_are}
 use Rattle.words.specs.Le.{le_at, le_bytes, put_le}
 use Rattle.words.specs.Wrap.{plus, minus}
-use Rattle.words.proofs.Runs.{and_left, and_right}
 use Rattle.rules.specs.Run.{party_in, World, Happening, attaches, plays, opened}
 use Rattle.rules.specs.Premises.{Typed, AllTyped, AllFair}
 use Rattle.rules.specs.Stretch.{calling, in_call}
@@ -65,10 +65,10 @@ own-one (plays (Close side) i o) e = absurd (let z : ◌≡◌ {A = ℕ} 0 1 = c
 own-one (plays (Shutdown side) i o) e = absurd (let z : ◌≡◌ {A = ℕ} 0 1 = cc in omega arith)
 
 head-asks : (h : Happening) (ms : List Happening) (w : World) → asks (h ∷ ms) w ≡ true → asks-one h ≡ true
-head-asks h ms w e = and_left (asks-one h) _ (and_left (asks-one h && all_short w.trace.sent (party_in w Recorder).length) _ e)
+head-asks h ms w e = first_so (asks-one h) _ (first_so (asks-one h && all_short w.trace.sent (party_in w Recorder).length) _ e)
 
 tail-asks : (h : Happening) (ms : List Happening) (w : World) → asks (h ∷ ms) w ≡ true → asks ms (happens h w) ≡ true
-tail-asks h ms w e = and_right (asks-one h && all_short w.trace.sent (party_in w Recorder).length) _ e
+tail-asks h ms w e = second_so (asks-one h && all_short w.trace.sent (party_in w Recorder).length) _ e
 
 own-typed : (ms : List Happening) (w : World) → asks ms w ≡ true → AllTyped ms
 own-typed [] w e = tt
@@ -82,29 +82,29 @@ amid Sender (h ∷ ms) w e =
 
 all-rounds : (rounds : List (List Happening)) (w : World) → all-alone rounds w ≡ true → Rounds 2 rounds w
 all-rounds [] w e = tt
-all-rounds (ms ∷ rounds) w e = (one, all-rounds rounds (run ms w) (and_right (alone ms w) _ e))
+all-rounds (ms ∷ rounds) w e = (one, all-rounds rounds (run ms w) (second_so (alone ms w) _ e))
   where
     here : alone ms w ≡ true
-    here = and_left (alone ms w) (all-alone rounds (run ms w)) e
+    here = first_so (alone ms w) (all-alone rounds (run ms w)) e
 
     calms : (calm Sender ms w && calm Recorder ms w) ≡ true
-    calms = and_left (calm Sender ms w && calm Recorder ms w) _ here
+    calms = first_so (calm Sender ms w && calm Recorder ms w) _ here
 
     rest : (asks ms w && (leb 1 (turns_by calling Recorder ms w) && (is_resting (stance_of (party_in w Sender).step) && leb 2 (length w.trace.sent)))) ≡ true
-    rest = and_right (calm Sender ms w && calm Recorder ms w) _ here
+    rest = second_so (calm Sender ms w && calm Recorder ms w) _ here
 
     late : (leb 1 (turns_by calling Recorder ms w) && (is_resting (stance_of (party_in w Sender).step) && leb 2 (length w.trace.sent))) ≡ true
-    late = and_right (asks ms w) _ rest
+    late = second_so (asks ms w) _ rest
 
     still : (is_resting (stance_of (party_in w Sender).step) && leb 2 (length w.trace.sent)) ≡ true
-    still = and_right (leb 1 (turns_by calling Recorder ms w)) _ late
+    still = second_so (leb 1 (turns_by calling Recorder ms w)) _ late
 
     by : (side : Side) → AllFair side ms w × (WillingAmid side ms w × TakesPart 2 side ms w)
-    by Sender = (calm-fair Sender ms w (and_left (calm Sender ms w) _ calms), (amid Sender ms w (and_left (asks ms w) _ rest), inr (resting-step (party_in w Sender).step (and_left (is_resting (stance_of (party_in w Sender).step)) _ still), leb-true 2 (length w.trace.sent) (and_right (is_resting (stance_of (party_in w Sender).step)) _ still))))
-    by Recorder = (calm-fair Recorder ms w (and_right (calm Sender ms w) _ calms), (amid Recorder ms w (and_left (asks ms w) _ rest), inl (leb-true 1 (turns_by calling Recorder ms w) (and_left (leb 1 (turns_by calling Recorder ms w)) _ late))))
+    by Sender = (calm-fair Sender ms w (first_so (calm Sender ms w) _ calms), (amid Sender ms w (first_so (asks ms w) _ rest), inr (resting-step (party_in w Sender).step (first_so (is_resting (stance_of (party_in w Sender).step)) _ still), leb-true 2 (length w.trace.sent) (second_so (is_resting (stance_of (party_in w Sender).step)) _ still))))
+    by Recorder = (calm-fair Recorder ms w (second_so (calm Sender ms w) _ calms), (amid Recorder ms w (first_so (asks ms w) _ rest), inl (leb-true 1 (turns_by calling Recorder ms w) (first_so (leb 1 (turns_by calling Recorder ms w)) _ late))))
 
     one : Round 2 ms w
-    one = (own-typed ms w (and_left (asks ms w) _ rest), by)
+    one = (own-typed ms w (first_so (asks ms w) _ rest), by)
 
 -- computed, byte by byte
 computed :

@@ -1,4 +1,5 @@
 -- The bound is reached: document 01's eleven turns at capacity 2, on bytes.
+use Rattle.std.specs.Cmp.{first_so, second_so}
 use Rattle.std.specs.Prelude.{None}
 use mathlib.Core.Path.{◌≡◌, refl, subst}
 use mathlib.Core.Bool.{Bool, true, false, ◌&&◌}
@@ -31,7 +32,6 @@ use Rattle.rules.specs.Turn.{goes, act_spec, act_leaves, act_buffer, turn_spec, 
 use Rattle.words.specs.Bytes.{zeros, bytes_are}
 use Rattle.words.specs.Le.{le_at, le_bytes, put_le}
 use Rattle.words.specs.Wrap.{plus, minus}
-use Rattle.words.proofs.Runs.{and_left, and_right}
 use Rattle.rules.specs.Run.{Note, party_in, World, Happening, attaches, plays, opened}
 use Rattle.rules.specs.Premises.{AllTyped, rung, FairTurn, Fair, AllFair}
 use Rattle.rules.specs.Stretch.{beats, Big, Wills, Willing, in_call}
@@ -67,8 +67,8 @@ all_short [] n = true
 all_short (x ∷ xs) n = leb (length x.body) n && all_short xs n
 
 short-at : (delivered : List Note) (x : Note) (rest : List Note) (n : ℕ) → all_short (delivered ++ (x ∷ rest)) n ≡ true → length x.body ≤ n
-short-at [] x rest n e = leb-true (length x.body) n (and_left (leb (length x.body) n) (all_short rest n) e)
-short-at (y ∷ delivered) x rest n e = short-at delivered x rest n (and_right (leb (length y.body) n) (all_short (delivered ++ (x ∷ rest)) n) e)
+short-at [] x rest n e = leb-true (length x.body) n (first_so (leb (length x.body) n) (all_short rest n) e)
+short-at (y ∷ delivered) x rest n e = short-at delivered x rest n (second_so (leb (length y.body) n) (all_short (delivered ++ (x ∷ rest)) n) e)
 
 -- the recorder's bell, far from 2^32 raises; nothing fails
 abbrev calm-one : Happening → Bool
@@ -106,9 +106,9 @@ calm-fair-one σ (plays (Shutdown side) i o) w e h = tt
 pub calm-fair : (σ : Side) (hs : List Happening) (w : World) → calm σ hs w ≡ true → AllFair σ hs w
 calm-fair σ [] w e = tt
 calm-fair σ (h ∷ hs) w e =
-    let one = and_left (calm-one h && ltb (rung σ w) (2 ^ 32)) (calm σ hs (happens h w)) e in (
-      calm-fair-one σ h w (and_left (calm-one h) _ one) (ltb-true (rung σ w) (2 ^ 32) (and_right (calm-one h) _ one)),
-      calm-fair σ hs (happens h w) (and_right (calm-one h && ltb (rung σ w) (2 ^ 32)) _ e),
+    let one = first_so (calm-one h && ltb (rung σ w) (2 ^ 32)) (calm σ hs (happens h w)) e in (
+      calm-fair-one σ h w (first_so (calm-one h) _ one) (ltb-true (rung σ w) (2 ^ 32) (second_so (calm-one h) _ one)),
+      calm-fair σ hs (happens h w) (second_so (calm-one h && ltb (rung σ w) (2 ^ 32)) _ e),
     )
 
 -- its own turns and pops, each with a buffer long enough for any note sent
@@ -147,8 +147,8 @@ pub asks-will : (hs : List Happening) (w : World) → asks hs w ≡ true → Wil
 asks-will [] w e = tt
 asks-will (h ∷ hs) w e =
     let now = asks-one h && all_short w.trace.sent (party_in w Recorder).length in
-    let one : now ≡ true = and_left now (asks hs (happens h w)) e in
-    (asks-will-one h w (and_left (asks-one h) _ one) (big-here w (and_right (asks-one h) _ one)), asks-will hs (happens h w) (and_right now _ e))
+    let one : now ≡ true = first_so now (asks hs (happens h w)) e in
+    (asks-will-one h w (first_so (asks-one h) _ one) (big-here w (second_so (asks-one h) _ one)), asks-will hs (happens h w) (second_so now _ e))
 
 abbrev pub made : World
 made = run before (opened start)

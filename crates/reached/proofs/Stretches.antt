@@ -1,4 +1,5 @@
 -- Willing stretches of every length exist.
+use lib.Dec.{leb-zero}
 use Rattle.std.specs.Prelude.{None}
 use mathlib.Core.Path.{◌≡◌, refl, sym, ap, ◌∙◌, subst}
 use mathlib.Core.Bool.{Bool, true, false}
@@ -39,7 +40,7 @@ use Rattle.rules.proofs.Listening.{mover-is, trace-is}
 use Rattle.rules.proofs.Views.{Kind, rests, dreams as asleep, acts, kind}
 use Rattle.rules.proofs.Bound.{notes-kept, notes-own, no_store}
 use Rattle.rules.proofs.Asks.{in-call, typed-both, fair-both}
-use Rattle.rules.proofs.Sized.{blank_of, Sized, sized-turn, sized-happens, sized-run, sized-start, nothing-fits, sound-here, takes-here}
+use Rattle.rules.proofs.Sized.{blank_of, Sized, sized-turn, sized-happens, sized-run, sized-start, sound-here, takes-here}
 use Rattle.rules.proofs.Real.{nth, blank, Real}
 use Rattle.reached.proofs.Lasts.{BigFine, EpochFine, before_on, big-turn, both-notes, counts-anew, epoch-on, fair-turn, stays_open, under-way}
 
@@ -188,7 +189,7 @@ module _ (P S v : ℕ) (on : Bool) (power-ok : power_ok P ≡ true) (slot-ok : s
 
   ask-party : (side : Side) (w : World) → Able side w → (party_in w side).step ≡ Rest → party_in (happens (ask side) w) side ≡ named false 0 (asked side) (party_in w side)
   unfolding happens played played_leaves settled push_spec pop_spec
-  ask-party Sender w a e = rw (is-ready Sender w a e, a.open-still, nothing-fits (payload_capacity (party_in w Sender).own.slot))
+  ask-party Sender w a e = rw (is-ready Sender w a e, a.open-still, leb-zero (payload_capacity (party_in w Sender).own.slot))
   ask-party Recorder w a e = rw (is-ready Recorder w a e, a.open-still)
 
   ask-trace : (side : Side) (w : World) → (happens (ask side) w).trace ≡ w.trace

@@ -5,6 +5,7 @@ use mathlib.Core.List.{List}
 use mathlib.Core.Logic.{inr}
 use Prim.Native.Nat.{ℕ, ◌-◌}
 use native.Mathlib.Omega.{arith}
+use Rattle.std.proofs.lemmas.Bool.{or_parts}
 use Rattle.words.specs.Le.{le_at}
 use Rattle.types.specs.declared.Side.{Side}
 use Rattle.types.specs.declared.Side.TheVariants.{Sender, Recorder}
@@ -17,7 +18,7 @@ use Rattle.rules.specs.Run.{Happening, party_in, opened}
 use Rattle.rules.specs.Premises.{AllTyped, AllFair}
 use Rattle.rules.specs.Claims.{room, Fresh, reached, WithCause, NotBoth}
 use Rattle.rules.proofs.RealRun.{power-fits, slot-fits, real-start, waiting-is}
-use Rattle.rules.proofs.Fairly.{Ready, ready-run, ready-start, quiet-duty, causeless, no_stop, dozes}
+use Rattle.rules.proofs.Fairly.{Ready, ready-run, ready-start, quiet-duty, causeless, dozes}
 use Rattle.rules.proofs.Leads.{stop_at}
 use Rattle.rules.proofs.Real.{room_in}
 
@@ -35,7 +36,7 @@ module _ (r : List ℕ) (P S : ℕ) (on : Bool) (v : ℕ) (fresh : Fresh r P S o
   with-cause side hs y f asleep still =
       let w = reached r P S on v hs in
       let c = causeless (room_in P S v on side w.trace) (stop_at side (le_at 4 w.region flags_at)) (dozes P S v on (rings (other side) on) side (other side) w (quiet-duty (other side) (party_in w (other side)).step still) asleep (ready-reached side hs y f)) in
-      (room-is side hs y ∙ c.0, no_stop _ _ c.1)
+      (room-is side hs y ∙ c.0, or_parts _ _ c.1)
 
   pub not-both : NotBoth r P S on v
   not-both hs y f s q =

@@ -1,4 +1,5 @@
 -- Corruption is told, over any region.
+use Rattle.std.specs.Cmp.{first_so, second_so}
 use Rattle.std.specs.Prelude.{None, Some}
 use mathlib.Core.Path.{◌≡◌, refl, ap, ◌∙◌, subst}
 use mathlib.Core.Bool.{Bool, true, false}
@@ -9,7 +10,6 @@ use borrow.Author.Tests.{eq-eqb, ne_eqb, lt-ltb, ltb-true}
 use lib.Dec.{eqb, ltb}
 use lib.ListN.{length}
 use Rattle.words.specs.Le.{le_at}
-use Rattle.words.proofs.Runs.{and_left, and_right}
 use Rattle.types.specs.declared.Side.{Side}
 use Rattle.types.specs.declared.Side.TheVariants.{Sender, Recorder}
 use Rattle.types.specs.declared.Party.{Party}
@@ -103,7 +103,7 @@ module _ (side : Side) (p : Party) (ok : sound side p ≡ true) where
 
   pub side-is : p.own.side ≡ side
   unfolding sound
-  side-is = side-here p.own.side (and_left (same_side side p.own.side) _ (and_right p.own.attached _ ok))
+  side-is = side-here p.own.side (first_so (same_side side p.own.side) _ (second_so p.own.attached _ ok))
 
   module _ (R : List ℕ) (above : capacity p.own.power < used side p.counter (le_at 8 R (counter_at (other side)))) where
     seen : room_here p.own p.counter (le_at 8 R (counter_at (other p.own.side))) ≡ Corrupt
@@ -157,7 +157,7 @@ module _ (side : Side) (p : Party) (ok : sound side p ≡ true) where
 pub fault-above : (side : Side) (p : Party) (r i o n : ℕ) → goes side p r i o (Some n) ≡ true → 0 < n
 unfolding goes
 fault-above side p r i o n g =
-    ltb-true 0 n (and_right (lent_ok (stance_of p.step) (lent_to side i o) p.length) (ltb 0 n) (and_right (eqb r (total_bytes p.own.power p.own.slot)) _ (and_right (sound side p) _ g)))
+    ltb-true 0 n (second_so (lent_ok (stance_of p.step) (lent_to side i o) p.length) (ltb 0 n) (second_so (eqb r (total_bytes p.own.power p.own.slot)) _ (second_so (sound side p) _ g)))
 
 -- a fault that is no error 0
 errors : (f : Fault) → (f ≡ Some 0 → ⊥) → (F : Fault → Type 0) → F None → ((e : ℕ) → eqb e 0 ≡ false → F (Some e)) → F f

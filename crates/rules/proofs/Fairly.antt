@@ -227,10 +227,6 @@ causeless zero false f = (refl, refl)
 causeless zero true f = absurd (f tt)
 causeless (suc k) z f = absurd (f tt)
 
-pub no_stop : (a b : Bool) → (a || b) ≡ false → (a ≡ false) × (b ≡ false)
-no_stop true b e = absurd (let z : ◌≡◌ {A = ℕ} 0 1 = cc in omega arith)
-no_stop false b e = (refl, e)
-
 -- with the other owing nothing, nobody sleeps with cause
 pub dozes : (P S v : ℕ) (on h : Bool) (σ τ : Side) (w : World) → duty τ (party_in w τ).step ≡ none → (party_in w σ).step ≡ Asleep → ReadyAt P S v on h σ τ w
     → Cause (room_in P S v on σ w.trace) (stop_at σ (le_at 4 w.region flags_at)) → ⊥

@@ -1,11 +1,11 @@
 -- The bits of a close and of a shutdown are set by calls that were begun.
+use Rattle.std.proofs.lemmas.Bool.{or_left, or_right, and_from}
 use Rattle.std.specs.Prelude.{None, Some}
 use mathlib.Core.Path.{◌≡◌, refl, sym, ap, ◌∙◌, subst}
-use mathlib.Core.Bool.{Bool, true, false, not, ◌&&◌, ◌||◌}
+use mathlib.Core.Bool.{Bool, true, false, not, ◌&&◌, ◌||◌, false≢true, or-false, or_assoc}
 use mathlib.Core.List.{List, [], ◌∷◌}
-use mathlib.Core.Logic.{◌⊎◌, inl, inr}
+use mathlib.Core.Logic.{◌⊎◌, inl, inr, ⊎_elim}
 use Prim.Native.Nat.{ℕ, ◌<◌}
-use native.Mathlib.Omega.{arith}
 use lib.Dec.{eqb, leb}
 use Rattle.words.specs.Le.{le_at}
 use Rattle.types.specs.Pick.{pick}
@@ -172,28 +172,10 @@ bit-by m side k s a f h shut e = bit-set m ShutMark f h e
 bit-by m side k s a f h wait e = inl e
 bit-by m side k s a f h (wake q b n) e = inl e
 
-either : {A : Type 0} {x y : Bool} → (x ≡ true → A) → (y ≡ true → A) → (x ≡ true) ⊎ (y ≡ true) → A
-either f g (inl e) = f e
-either f g (inr e) = g e
-
 -- b: such a call was begun
 record Flagged (m : Mark) (b : Bool) (w : World) : Type 0 where
   bit : bit_on (worth m) (le_at 4 w.region flags_at) ≡ true → b ≡ true
   step : (side : Side) → will_set m side (party_in w side).step ≡ true → b ≡ true
-
-no : {A : Type 0} → false ≡ true → A
-no e = absurd (let z : ◌≡◌ {A = ℕ} 0 1 = cc in omega arith)
-
-or_left : (b x : Bool) → b ≡ true → (b || x) ≡ true
-or_left b x e = rw e
-
-or_right : (b x : Bool) → x ≡ true → (b || x) ≡ true
-or_right true x e = refl
-or_right false x e = e
-
-or-none : (b : Bool) → (b || false) ≡ b
-or-none true = refl
-or-none false = refl
 
 -- a call of a side that changes its step
 called : (m : Mark) (b x : Bool) (w : World) (side : Side) (q : Party) → (will_set m side q.step ≡ true → (b || x) ≡ true) → Flagged m b w
@@ -217,9 +199,6 @@ roused-step F p false a q h f = h
 roused-step F p true false q h f = h
 roused-step F p true true q h f = f
 
-and-true : (a : Bool) → a ≡ true → (a && true) ≡ true
-and-true a e = rw e
-
 plain_step : (F : Party → Type 0) (p : Party) (g k o n : Bool) (q : Party) → F p → F q → F (begins p g k o n q).party
 plain_step F p false k o n q h f = h
 plain_step F p true true o n q h f = h
@@ -238,12 +217,12 @@ module _ (P S v : ℕ) (on : Bool) (power-ok : power_ok P ≡ true) (slot-ok : s
           let q = party_in w (other side) in
           subst (Flagged m b) (sym (turn-is-after P S v on power-ok slot-ok w real side payload lent fault g))
           (record {
-            bit = λ e. either y.bit (y.step side)
+            bit = λ e. ⊎_elim y.bit (y.step side)
                 (bit-by m side p.counter p.step _ (le_at 4 w.region flags_at) real.fixed.small (does side p.counter p.step) (sym (ap (bit_on (worth m)) (flags-left P S v on power-ok slot-ok w real side payload lent fault g)) ∙ e));
             step = both-sides side (λ τ. will_set m τ (party_in (after_turn P S v on power-ok slot-ok w real side payload lent fault g) τ).step ≡ true → b ≡ true)
-                (rw (mover-is P S v on power-ok slot-ok w real side payload lent fault g) (λ e. no (sym (sets-on m side _ _ _ (leads-here P S v on power-ok slot-ok w real side payload lent fault g)) ∙ e)))
+                (rw (mover-is P S v on power-ok slot-ok w real side payload lent fault g) (λ e. absurd (false≢true (sym (sets-on m side _ _ _ (leads-here P S v on power-ok slot-ok w real side payload lent fault g)) ∙ e))))
                 (rw (waiter-is P S v on power-ok slot-ok w real side payload lent fault g)
-                (roused-elim (roused (other side) q (woke_of (next_spec p) (error_of fault))) (λ u. will_set m (other side) u ≡ true → b ≡ true) (y.step (other side)) (λ z e. no e)));
+                (roused-elim (roused (other side) q (woke_of (next_spec p) (error_of fault))) (λ u. will_set m (other side) u ≡ true → b ≡ true) (y.step (other side)) (λ z e. absurd (false≢true e))));
           })
 
   flagged-attach : (side : Side) (n : ℕ) (w : World) → Real P S v on w → (b : Bool) → Flagged m b w → Flagged m b (happens (attaches side n) w)
@@ -251,7 +230,7 @@ module _ (P S v : ℕ) (on : Bool) (power-ok : power_ok P ≡ true) (slot-ok : s
   flagged-attach side n w real b y = by (eqb (number (attach_answer w.region side n)) 0) refl
     where
       kept : bit_on (worth m) (set_bit (worth (attach_mark side)) (le_at 4 w.region flags_at)) ≡ true → b ≡ true
-      kept e = either y.bit (λ q. no (sym (parts side) ∙ q)) (bit-set m (attach_mark side) (le_at 4 w.region flags_at) real.fixed.small e)
+      kept e = ⊎_elim y.bit (λ q. absurd (false≢true (sym (parts side) ∙ q))) (bit-set m (attach_mark side) (le_at 4 w.region flags_at) real.fixed.small e)
 
       by : (x : Bool) → eqb (number (attach_answer w.region side n)) 0 ≡ x → Flagged m b (happens (attaches side n) w)
       by false e = rw e (record { bit = y.bit; step = y.step })
@@ -259,44 +238,40 @@ module _ (P S v : ℕ) (on : Bool) (power-ok : power_ok P ≡ true) (slot-ok : s
           rw e (record {
             bit = λ q. kept (sym (ap (bit_on (worth m)) (attach-flags P S v on power-ok slot-ok w real side)) ∙ q);
             step = both-sides side (λ τ. will_set m τ (party_of (seat w.bench side (attached w.region side n)) τ).step ≡ true → b ≡ true)
-                (rw (seat-one side w.bench (attached w.region side n)) (λ q. no q)) (rw (seat-two side w.bench (attached w.region side n)) (y.step (other side)));
+                (rw (seat-one side w.bench (attached w.region side n)) (λ q. absurd (false≢true q))) (rw (seat-two side w.bench (attached w.region side n)) (y.step (other side)));
           })
 
   flagged-happens : (h : Happening) (w : World) → Real P S v on w → (b : Bool) → Flagged m b w → Flagged m (b || asks_for m h w) (happens h w)
   unfolding happens played played_leaves settled push_spec pop_spec close_spec shut_spec spurious_spec timeout_spec
-  flagged-happens (attaches side n) w real b y = rw (or-none b) (flagged-attach side n w real b y)
-  flagged-happens (plays (Turn side) i o) w real b y = rw (or-none b) (flagged-turn w real b y side i o None)
-  flagged-happens (plays (Failing side e) i o) w real b y = rw (or-none b) (flagged-turn w real b y side i o (Some e))
+  flagged-happens (attaches side n) w real b y = rw (or-false b) (flagged-attach side n w real b y)
+  flagged-happens (plays (Turn side) i o) w real b y = rw (or-false b) (flagged-turn w real b y side i o None)
+  flagged-happens (plays (Failing side e) i o) w real b y = rw (or-false b) (flagged-turn w real b y side i o (Some e))
   flagged-happens (plays (Spurious side) i o) w real b y =
       let p = party_in w side in
-      called m b false w side _ (roused-step (λ q. will_set m side q.step ≡ true → (b || false) ≡ true) p (sound side p) (is_sleeping (stance_of p.step)) (reply (at Look p) GoesOn) (λ e. or_left b false (y.step side e)) (λ e. no e)) y
+      called m b false w side _ (roused-step (λ q. will_set m side q.step ≡ true → (b || false) ≡ true) p (sound side p) (is_sleeping (stance_of p.step)) (reply (at Look p) GoesOn) (λ e. or_left b false (y.step side e)) (λ e. absurd (false≢true e))) y
   flagged-happens (plays (TimeOut side) i o) w real b y =
       let p = party_in w side in
-      called m b false w side _ (roused-step (λ q. will_set m side q.step ≡ true → (b || false) ≡ true) p (sound side p) (is_sleeping (stance_of p.step)) (reply (at (LastLook true) p) GoesOn) (λ e. or_left b false (y.step side e)) (λ e. no e)) y
+      called m b false w side _ (roused-step (λ q. will_set m side q.step ≡ true → (b || false) ≡ true) p (sound side p) (is_sleeping (stance_of p.step)) (reply (at (LastLook true) p) GoesOn) (λ e. or_left b false (y.step side e)) (λ e. absurd (false≢true e))) y
   flagged-happens (plays (Push blocking tag l) i o) w real b y =
       let p = party_in w Sender in
-      called m b false w Sender _ (plain_step (λ q. will_set m Sender q.step ≡ true → (b || false) ≡ true) p (ready Sender p) p.closed (blocking && not p.own.notfull) (not (leb l (payload_capacity p.own.slot))) (named blocking tag l p) (λ e. or_left b false (y.step Sender e)) (λ e. no e)) y
+      called m b false w Sender _ (plain_step (λ q. will_set m Sender q.step ≡ true → (b || false) ≡ true) p (ready Sender p) p.closed (blocking && not p.own.notfull) (not (leb l (payload_capacity p.own.slot))) (named blocking tag l p) (λ e. or_left b false (y.step Sender e)) (λ e. absurd (false≢true e))) y
   flagged-happens (plays (Pop blocking l) i o) w real b y =
       let p = party_in w Recorder in
-      called m b false w Recorder _ (plain_step (λ q. will_set m Recorder q.step ≡ true → (b || false) ≡ true) p (ready Recorder p) p.closed false false (named blocking 0 l p) (λ e. or_left b false (y.step Recorder e)) (λ e. no e)) y
+      called m b false w Recorder _ (plain_step (λ q. will_set m Recorder q.step ≡ true → (b || false) ≡ true) p (ready Recorder p) p.closed false false (named blocking 0 l p) (λ e. or_left b false (y.step Recorder e)) (λ e. absurd (false≢true e))) y
   flagged-happens (plays (Close side) i o) w real b y =
       let p = party_in w side in
       let a = eqb (worth m) (worth (close_mark side)) in
       called m b _ w side _ (begun-step (λ x q. will_set m side q.step ≡ true → (b || x) ≡ true) p (ready side p) p.closed false false (at CloseSet p) a
-      (λ x e. or_left b x (y.step side e)) (λ e. or_right b (a && true) (and-true a (same-worth m (close_mark side) ∙ e)))) y
+      (λ x e. or_left b x (y.step side e)) (λ e. or_right b (a && true) (and_from a true (same-worth m (close_mark side) ∙ e) refl))) y
   flagged-happens (plays (Shutdown side) i o) w real b y =
       let p = party_in w side in
       let a = eqb (worth m) (worth ShutMark) in
       called m b _ w side _ (begun-step (λ x q. will_set m side q.step ≡ true → (b || x) ≡ true) p (ready side p) false false false (at (ShutSet false) p) a
-      (λ x e. or_left b x (y.step side e)) (λ e. or_right b (a && true) (and-true a (same-worth m ShutMark ∙ e)))) y
-
-  or_assoc : (a b c : Bool) → ((a || b) || c) ≡ (a || (b || c))
-  or_assoc true b c = refl
-  or_assoc false b c = refl
+      (λ x e. or_left b x (y.step side e)) (λ e. or_right b (a && true) (and_from a true (same-worth m ShutMark ∙ e) refl))) y
 
   flagged-run : (hs : List Happening) (w : World) → AllTyped hs → Real P S v on w → (b : Bool) → Flagged m b w → Flagged m (b || ever_asks m hs w) (run hs w)
   unfolding run
-  flagged-run [] w t real b y = rw (or-none b) y
+  flagged-run [] w t real b y = rw (or-false b) y
   flagged-run (h ∷ hs) w t real b y =
       subst (λ (x : Bool). Flagged m x (run hs (happens h w))) (or_assoc b (asks_for m h w) (ever_asks m hs (happens h w)))
       (flagged-run hs (happens h w) t.1 (real-happens P S v on power-ok slot-ok h w t.0 real) (b || asks_for m h w) (flagged-happens h w real b y))
@@ -305,8 +280,8 @@ module _ (r : List ℕ) (P S : ℕ) (on : Bool) (v : ℕ) (fresh : Fresh r P S o
   flagged-start : (m : Mark) → ((on : Bool) → bit_on (worth m) (first_flags on) ≡ false) → Flagged m false (opened (created r P S on v))
   flagged-start m f =
       record {
-        bit = λ e. no (sym (ap (bit_on (worth m)) (flags-are r P S on v fresh) ∙ f on) ∙ e);
-        step = both-sides Sender (λ τ. will_set m τ (party_in (opened (created r P S on v)) τ).step ≡ true → ◌≡◌ {A = Bool} false true) (λ e. no e) (λ e. no e);
+        bit = λ e. absurd (false≢true (sym (ap (bit_on (worth m)) (flags-are r P S on v fresh) ∙ f on) ∙ e));
+        step = both-sides Sender (λ τ. will_set m τ (party_in (opened (created r P S on v)) τ).step ≡ true → ◌≡◌ {A = Bool} false true) (λ e. e) (λ e. e);
       }
 
   ever : (m : Mark) → ((side : Side) → same_mark m (attach_mark side) ≡ false) → ((on : Bool) → bit_on (worth m) (first_flags on) ≡ false) → (hs : List Happening) → AllTyped hs

@@ -1,4 +1,6 @@
 -- 20 is answered exactly where one of its grounds holds.
+use Rattle.std.proofs.lemmas.Bool.{and_left, and_right}
+use Rattle.std.specs.Cmp.{first_so, second_so}
 use Rattle.std.specs.Prelude.{None, Some}
 use mathlib.Core.Path.{◌≡◌, refl, sym, ap, subst, ◌∙◌}
 use mathlib.Core.Bool.{Bool, true, false, not, ◌&&◌}
@@ -29,18 +31,10 @@ use Rattle.rules.specs.Turn.{fault_ok, lent_to, lent_ok, goes, taken}
 use Rattle.rules.specs.Given.{Ask, create, attach, push, pop, close, shutdown, spurious, timeout, turn, answered, Given, push-bad, pop-bad, close-bad, shutdown-bad, spurious-bad, timeout-bad, turn-bad, created, attached, turn-taken}
 use Rattle.rules.specs.Asked.{lent_of}
 use Rattle.rules.specs.Grounds.{Unsound, not-attached, of_other, power-low, power-high, slot-low, slot-high, slot-uneven, spins-high, push-long, Unready, unready, runs, Untaken, untaken, region-length, copy-lent, error-0, Grounds, BadExactly}
-use Rattle.words.proofs.Runs.{and_left, and_right}
 use Rattle.rules.proofs.Views.{resting-step, copying-step}
 use Rattle.rules.proofs.Answered.{given-only, given-first}
 
--- where a part of a test does not hold the whole does not, and the other way round
-off-right : (a b : Bool) → b ≡ false → (a && b) ≡ false
-off-right true b e = e
-off-right false b e = refl
-
-off-left : (a b : Bool) → a ≡ false → (a && b) ≡ false
-off-left a b e = rw e
-
+-- where a whole test does not hold, a part of it does not
 either : {A : Type 0} (a b : Bool) → (a && b) ≡ false → (a ≡ false → A) → (b ≡ false → A) → A
 either true b e f g = g e
 either false b e f g = f refl
@@ -90,31 +84,31 @@ module _ (side : Side) (p : Party) where
 
   -- what each ground makes of the test
   after-side : (b : Bool) → b ≡ false → (o.attached && (same_side side o.side && b)) ≡ false
-  after-side b e = off-right o.attached _ (off-right (same_side side o.side) b e)
+  after-side b e = and_right o.attached _ (and_right (same_side side o.side) b e)
 
   by-power : power_ok o.power ≡ false → sound side p ≡ false
   unfolding sound
-  by-power e = after-side _ (off-left (power_ok o.power) _ e)
+  by-power e = after-side _ (and_left (power_ok o.power) _ e)
 
   by-slot : slot_ok o.slot ≡ false → sound side p ≡ false
   unfolding sound
-  by-slot e = after-side _ (off-right (power_ok o.power) _ (off-left (slot_ok o.slot) _ e))
+  by-slot e = after-side _ (and_right (power_ok o.power) _ (and_left (slot_ok o.slot) _ e))
 
   by-rest : (spins_ok o.spins && length_ok side p.length o.slot) ≡ false → sound side p ≡ false
   unfolding sound
-  by-rest e = after-side _ (off-right (power_ok o.power) _ (off-right (slot_ok o.slot) _ e))
+  by-rest e = after-side _ (and_right (power_ok o.power) _ (and_right (slot_ok o.slot) _ e))
 
   sound-off : Unsound side p → sound side p ≡ false
   unfolding sound power_ok slot_ok spins_ok
-  sound-off (not-attached e) = off-left o.attached _ e
-  sound-off (of_other e) = off-right o.attached _ (off-left (same_side side o.side) _ (rw (e, same-other side)))
-  sound-off (power-low h) = by-power (off-left (leb least_power o.power) _ (lt-leb least_power o.power h))
-  sound-off (power-high h) = by-power (off-right (leb least_power o.power) _ (lt-leb o.power most_power h))
-  sound-off (slot-low h) = by-slot (off-left (leb least_slot o.slot && leb o.slot most_slot) _ (off-left (leb least_slot o.slot) _ (lt-leb least_slot o.slot h)))
-  sound-off (slot-high h) = by-slot (off-left (leb least_slot o.slot && leb o.slot most_slot) _ (off-right (leb least_slot o.slot) _ (lt-leb o.slot most_slot h)))
-  sound-off (slot-uneven n) = by-slot (off-right (leb least_slot o.slot && leb o.slot most_slot) _ (ne_eqb (o.slot % slot_step) 0 n))
-  sound-off (spins-high h) = by-rest (off-left (spins_ok o.spins) _ (lt-leb o.spins most_spins h))
-  sound-off (push-long e h) = by-rest (off-right (spins_ok o.spins) _ (rw e (lt-leb p.length (payload_capacity o.slot) h)))
+  sound-off (not-attached e) = and_left o.attached _ e
+  sound-off (of_other e) = and_right o.attached _ (and_left (same_side side o.side) _ (rw (e, same-other side)))
+  sound-off (power-low h) = by-power (and_left (leb least_power o.power) _ (lt-leb least_power o.power h))
+  sound-off (power-high h) = by-power (and_right (leb least_power o.power) _ (lt-leb o.power most_power h))
+  sound-off (slot-low h) = by-slot (and_left (leb least_slot o.slot && leb o.slot most_slot) _ (and_left (leb least_slot o.slot) _ (lt-leb least_slot o.slot h)))
+  sound-off (slot-high h) = by-slot (and_left (leb least_slot o.slot && leb o.slot most_slot) _ (and_right (leb least_slot o.slot) _ (lt-leb o.slot most_slot h)))
+  sound-off (slot-uneven n) = by-slot (and_right (leb least_slot o.slot && leb o.slot most_slot) _ (ne_eqb (o.slot % slot_step) 0 n))
+  sound-off (spins-high h) = by-rest (and_left (spins_ok o.spins) _ (lt-leb o.spins most_spins h))
+  sound-off (push-long e h) = by-rest (and_right (spins_ok o.spins) _ (rw e (lt-leb p.length (payload_capacity o.slot) h)))
 
   -- a begin
   unready-of : ready side p ≡ false → Unready side p
@@ -123,8 +117,8 @@ module _ (side : Side) (p : Party) where
 
   ready-off : Unready side p → ready side p ≡ false
   unfolding ready
-  ready-off (unready u) = off-left (sound side p) _ (sound-off u)
-  ready-off (runs n) = off-right (sound side p) _ (by (is_resting (stance_of p.step)) refl)
+  ready-off (unready u) = and_left (sound side p) _ (sound-off u)
+  ready-off (runs n) = and_right (sound side p) _ (by (is_resting (stance_of p.step)) refl)
     where
       by : (b : Bool) → is_resting (stance_of p.step) ≡ b → b ≡ false
       by true e = absurd (n (resting-step p.step e))
@@ -160,12 +154,12 @@ module _ (side : Side) (r : List ℕ) (p : Party) (i o : List ℕ) (f : Fault) w
 
   taken-off : Untaken side r p i o f → taken side r p i o f ≡ false
   unfolding goes
-  taken-off (untaken u) = off-left (sound side p) _ (sound-off side p u)
-  taken-off (region-length n) = off-right (sound side p) _ (off-left _ _ (ne_eqb (length r) (total_bytes p.own.power p.own.slot) n))
+  taken-off (untaken u) = and_left (sound side p) _ (sound-off side p u)
+  taken-off (region-length n) = and_right (sound side p) _ (and_left _ _ (ne_eqb (length r) (total_bytes p.own.power p.own.slot) n))
   taken-off (copy-lent s n) =
-      off-right (sound side p) _ (off-right (eqb (length r) (total_bytes p.own.power p.own.slot)) _
-      (off-left (lent_ok (stance_of p.step) (lent_to side (length i) (length o)) p.length) _ (rw s (ne_eqb (lent_to side (length i) (length o)) p.length (λ h. n (sym (lent_is i o side) ∙ h))))))
-  taken-off (error-0 e) = off-right (sound side p) _ (off-right (eqb (length r) (total_bytes p.own.power p.own.slot)) _ (off-right (lent_ok (stance_of p.step) (lent_to side (length i) (length o)) p.length) _ (rw e)))
+      and_right (sound side p) _ (and_right (eqb (length r) (total_bytes p.own.power p.own.slot)) _
+      (and_left (lent_ok (stance_of p.step) (lent_to side (length i) (length o)) p.length) _ (rw s (ne_eqb (lent_to side (length i) (length o)) p.length (λ h. n (sym (lent_is i o side) ∙ h))))))
+  taken-off (error-0 e) = and_right (sound side p) _ (and_right (eqb (length r) (total_bytes p.own.power p.own.slot)) _ (and_right (lent_ok (stance_of p.step) (lent_to side (length i) (length o)) p.length) _ (rw e)))
 
 -- no check of a region is answered by 20
 abbrev none-bad : List Test → Bool
@@ -174,8 +168,8 @@ none-bad (test b a ∷ cs) = not (eqb (number a) 20) && none-bad cs
 
 never-bad : (cs : List Test) → none-bad cs ≡ true → first_of cs ≡ BadCall → ⊥
 never-bad [] h e = let z : ◌≡◌ {A = ℕ} 0 1 = cc in omega arith
-never-bad (test true a ∷ cs) h e = never-bad cs (and_right (not (eqb (number a) 20)) _ h) e
-never-bad (test false a ∷ cs) h e = let q = and_left (not (eqb (number a) 20)) _ h in let z = rw e at q in let x : ◌≡◌ {A = ℕ} 0 1 = cc in omega arith
+never-bad (test true a ∷ cs) h e = never-bad cs (second_so (not (eqb (number a) 20)) _ h) e
+never-bad (test false a ∷ cs) h e = let q = first_so (not (eqb (number a) 20)) _ h in let z = rw e at q in let x : ◌≡◌ {A = ℕ} 0 1 = cc in omega arith
 
 spins-bad : (r : List ℕ) (side : Side) (spins : ℕ) (b : Bool) → spins_ok spins ≡ b → attach_answer r side spins ≡ BadCall → most_spins < spins
 unfolding spins_ok region_checks ring_checks flag_checks

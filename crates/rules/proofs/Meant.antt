@@ -1,4 +1,5 @@
 -- What a party holds of its call, and what the call has published, in every world that a run reaches.
+use Rattle.std.specs.Cmp.{first_so}
 use Rattle.std.specs.Prelude.{None, Some}
 use mathlib.Core.Path.{◌≡◌, refl, sym, ap, ◌∙◌, subst}
 use mathlib.Core.Bool.{Bool, true, false, not, ◌&&◌}
@@ -8,7 +9,6 @@ use Prim.Native.Nat.{ℕ}
 use native.Mathlib.Omega.{arith}
 use lib.Dec.{eqb, leb}
 use lib.ListN.{take}
-use Rattle.words.proofs.Runs.{and_left}
 use Rattle.types.specs.Pick.{pick}
 use Rattle.types.specs.Answers.{number}
 use Rattle.types.specs.declared.Side.{Side}
@@ -375,7 +375,7 @@ roused-keeps F p true true q x y = y refl
 
 never : (side : Side) (p : Party) → ready side p ≡ true → p.own.attached ≡ false → {A : Type 0} → A
 unfolding ready sound
-never side p e f = absurd (let h = sym (and_left p.own.attached _ (and_left (sound side p) _ e)) ∙ f in let z : ◌≡◌ {A = ℕ} 0 1 = cc in omega arith)
+never side p e f = absurd (let h = sym (first_so p.own.attached _ (first_so (sound side p) _ e)) ∙ f in let z : ◌≡◌ {A = ℕ} 0 1 = cc in omega arith)
 
 -- a close or a shutdown that is begun
 parted : (p : Party) (s : Step) (c : Call) → Keeps c p → Keeps (superseded c) (at s p)

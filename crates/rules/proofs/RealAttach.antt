@@ -1,11 +1,12 @@
 -- An attach keeps the invariant: a refused one changes nothing, an accepted one seats a party at rest in an empty seat.
 use mathlib.Core.Path.{◌≡◌, refl, sym, ◌∙◌, subst}
-use mathlib.Core.Bool.{Bool, true, false, not}
+use mathlib.Core.Bool.{Bool, true, false}
 use mathlib.Core.List.{List, [], ◌∷◌}
 use Prim.Native.Nat.{ℕ, zero, suc}
 use native.Mathlib.Omega.{arith}
 use lib.Dec.{T, eqb}
 use lib.ListN.{length}
+use Rattle.std.proofs.lemmas.Bool.{not-true}
 use Rattle.words.specs.Le.{le_at, put_le}
 use Rattle.types.specs.Answers.{number, Test, test, first_of}
 use Rattle.types.specs.declared.Side.{Side}
@@ -44,10 +45,6 @@ done-test (test true a ∷ cs) t e zero = refl
 done-test (test true a ∷ cs) t e (suc k) = done-test cs (others-refuse (refuses a) (all-refuse cs) t) e k
 done-test (test false a ∷ cs) t e k =
     absurd (let f : eqb (number a) 0 ≡ false = refusal-number a (first-refuses (refuses a) (all-refuse cs) t) in let z : ◌≡◌ {A = ℕ} 0 1 = cc in omega arith)
-
-not-true : (b : Bool) → not b ≡ true → b ≡ false
-not-true true e = sym e
-not-true false e = refl
 
 -- an accepted count is within the limit
 pub count-few : (r : List ℕ) (side : Side) (spins : ℕ) → eqb (number (attach_answer r side spins)) 0 ≡ true → spins_ok spins ≡ true

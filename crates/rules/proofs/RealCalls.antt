@@ -5,7 +5,7 @@ use mathlib.Core.Logic.{◌⊎◌, inl, inr}
 use Prim.Native.Nat.{ℕ, ◌^◌, ◌<◌}
 use native.Mathlib.Omega.{arith}
 use lib.Dec.{T, leb}
-use Rattle.words.proofs.Runs.{and_left}
+use Rattle.std.specs.Cmp.{first_so}
 use Rattle.types.specs.declared.Side.{Side}
 use Rattle.types.specs.declared.Side.TheVariants.{Sender, Recorder}
 use Rattle.types.specs.declared.Own.{Own}
@@ -66,11 +66,11 @@ rouses-one p true true q = inr (refl, (refl, refl))
 
 sound-attached : (side : Side) (p : Party) → sound side p ≡ true → p.own.attached ≡ true
 unfolding sound
-sound-attached side p e = and_left p.own.attached _ e
+sound-attached side p e = first_so p.own.attached _ e
 
 ready-attached : (side : Side) (p : Party) → ready side p ≡ true → p.own.attached ≡ true
 unfolding ready
-ready-attached side p e = sound-attached side p (and_left (sound side p) _ e)
+ready-attached side p e = sound-attached side p (first_so (sound side p) _ e)
 
 -- either it stayed, or the tests that let it change held
 changed-by : (side : Side) (p x q : Party) (F : Type 0) → (F → Begun side p q) → (x ≡ p) ⊎ ((x ≡ q) × F) → Changed side p x

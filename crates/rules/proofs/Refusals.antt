@@ -5,6 +5,7 @@ use mathlib.Core.List.{List, [], ◌∷◌}
 use Prim.Native.Nat.{ℕ}
 use lib.Dec.{T, leb, eqb}
 use lib.ListN.{length}
+use Rattle.std.specs.Cmp.{second_so}
 use Rattle.types.specs.Pick.{pick}
 use Rattle.types.specs.Answers.{number, Test, test, first_of}
 use Rattle.types.specs.declared.Side.{Side}
@@ -18,7 +19,6 @@ use Rattle.types.specs.declared.Step.{Step}
 use Rattle.types.specs.declared.Step.TheVariants.{Rest, Look, LastLook, CloseSet, ShutSet}
 use Rattle.types.specs.declared.Answer.{Answer}
 use Rattle.types.specs.declared.Answer.TheVariants.{Done, InvalidMagic, UnsupportedVersion, InvalidHeaderSize, InvalidLayout, InvalidCapacity, InvalidSlotSize, CorruptIndices, CorruptSlot, Full, Empty, Closed, Shutdown, Timeout, WouldBlock, OutputTooSmall, AlreadyAttached, Syscall, PayloadTooLong, NotFullOff, BadCall, Nothing, Begun, GoesOn}
-use Rattle.words.proofs.Runs.{and_right}
 use Rattle.layout.specs.Limits.{payload_capacity}
 use Rattle.layout.specs.Create.{create_checks, create_answer, create_leaves}
 use Rattle.layout.specs.Attach.{attached as joined, unattached, flag_checks, ring_checks, region_checks, attach_checks, attach_answer, attach_reply, attach_leaves}
@@ -191,7 +191,7 @@ party-of e = ap (λ (x : Reply). x.party) e
 
 pub ready-rests : (side : Side) (p : Party) → ready side p ≡ true → p.step ≡ Rest
 unfolding ready
-ready-rests side p e = resting-step p.step (and_right (sound side p) (is_resting (stance_of p.step)) e)
+ready-rests side p e = resting-step p.step (second_so (sound side p) (is_resting (stance_of p.step)) e)
 
 closed-rests : {r : Reply} (side : Side) (p : Party) → ready side p ≡ true → r ≡ reply p Closed → r.party.step ≡ Rest
 closed-rests side p e h = ap (λ (x : Reply). x.party.step) h ∙ ready-rests side p e

@@ -6,9 +6,9 @@ use mathlib.Core.Logic.{◌⊎◌, inl, inr, ⊎_elim}
 use Prim.Native.Nat.{ℕ, ◌+◌, ◌%◌, ◌^◌, ◌<◌}
 use native.Mathlib.Omega.{arith}
 use native.Mathlib.Nat.{mod-add-mod, mod-mod, add-zero, add_assoc}
+use Rattle.std.specs.Cmp.{second_so}
 use Rattle.words.specs.Le.{le_at}
 use Rattle.words.specs.Wrap.{plus, next}
-use Rattle.words.proofs.Runs.{and_right}
 use Rattle.types.specs.Pick.{pick}
 use Rattle.types.specs.declared.Side.{Side}
 use Rattle.types.specs.declared.Side.TheVariants.{Sender, Recorder}
@@ -72,7 +72,7 @@ roused side q w = by (hears side w && is_sleeping (stance_of q.step)) refl
           closed = refl;
           counter = refl;
           blocking = refl;
-          step = inr (sleeping-step q.step (and_right (hears side w) (is_sleeping (stance_of q.step)) e), refl);
+          step = inr (sleeping-step q.step (second_so (hears side w) (is_sleeping (stance_of q.step)) e), refl);
         }
     by false e = record { own = refl; closed = refl; counter = refl; blocking = refl; step = inl refl }
 

@@ -1,12 +1,12 @@
 -- A sender's record always names a length that its slot holds: so no turn of an attached party is refused for its record.
+use Rattle.std.proofs.lemmas.Bool.{not-false}
 use Rattle.std.specs.Prelude.{None, Some}
 use mathlib.Core.Path.{◌≡◌, refl, sym, ap, ◌∙◌, subst}
 use mathlib.Core.Bool.{Bool, true, false, not, ◌&&◌}
 use mathlib.Core.List.{List, [], ◌∷◌}
 use Prim.Native.Nat.{ℕ}
-use native.Mathlib.Omega.{arith}
-use borrow.Author.Tests.{le-leb, eq-eqb}
-use lib.Dec.{leb, eqb}
+use borrow.Author.Tests.{eq-eqb}
+use lib.Dec.{leb, eqb, leb-zero}
 use lib.ListN.{length, replicate, length-replicate}
 use Rattle.types.specs.Pick.{pick}
 use Rattle.types.specs.Answers.{number}
@@ -58,9 +58,6 @@ woken-length side q x = by (hears side x && is_sleeping (stance_of q.step))
     by true = refl
     by false = refl
 
-pub nothing-fits : (n : ℕ) → leb 0 n ≡ true
-nothing-fits n = le-leb 0 n (omega arith)
-
 -- a begin that is taken has passed its tests
 begun-fits : (p : Party) (g c o n : Bool) (q : Party) → Fits Sender p → (n ≡ false → Fits Sender q) → Fits Sender (begins p g c o n q).party
 begun-fits p false c o n q h f = h
@@ -73,10 +70,6 @@ roused-fits : (p : Party) (g s : Bool) (q : Reply) → Fits Sender p → Fits Se
 roused-fits p false s q h f = h
 roused-fits p true false q h f = h
 roused-fits p true true q h f = f
-
-not-long : (b : Bool) → not b ≡ false → b ≡ true
-not-long true e = refl
-not-long false e = absurd (let z : ◌≡◌ {A = ℕ} 0 1 = cc in omega arith)
 
 sized-seat : (side : Side) (b : Bench) (q : Party) → Fits Sender b.sender → (side ≡ Sender → Fits Sender q) → Fits Sender (seat b side q).sender
 sized-seat Sender b q h f = f refl
@@ -101,7 +94,7 @@ unfolding happens attach_reply
 sized-attach w side spins h = by (eqb (number (attach_answer w.region side spins)) 0) refl
   where
     by : (b : Bool) → eqb (number (attach_answer w.region side spins)) 0 ≡ b → Sized (happens (attaches side spins) w)
-    by true e = rw e (sized-seat side w.bench (attached w.region side spins) h (λ q. nothing-fits (payload_capacity (attached w.region side spins).own.slot)))
+    by true e = rw e (sized-seat side w.bench (attached w.region side spins) h (λ q. leb-zero (payload_capacity (attached w.region side spins).own.slot)))
     by false e = rw e h
 
 pub sized-happens : (h : Happening) (w : World) → Sized w → Sized (happens h w)
@@ -115,7 +108,7 @@ sized-happens (plays (TimeOut Sender) i o) w h = let p = w.bench.sender in rouse
 sized-happens (plays (TimeOut Recorder) i o) w h = h
 sized-happens (plays (Push b t l) i o) w h =
     let p = w.bench.sender in
-    begun-fits p (ready Sender p) p.closed (b && not p.own.notfull) (not (leb l (payload_capacity p.own.slot))) (named b t l p) h (not-long (leb l (payload_capacity p.own.slot)))
+    begun-fits p (ready Sender p) p.closed (b && not p.own.notfull) (not (leb l (payload_capacity p.own.slot))) (named b t l p) h (not-false (leb l (payload_capacity p.own.slot)))
 sized-happens (plays (Pop b l) i o) w h = h
 sized-happens (plays (Close Sender) i o) w h = let p = w.bench.sender in begun-fits p (ready Sender p) p.closed false false (at CloseSet p) h (λ e. h)
 sized-happens (plays (Close Recorder) i o) w h = h
@@ -128,7 +121,7 @@ sized-run [] w h = h
 sized-run (e ∷ hs) w h = sized-run hs (happens e w) (sized-happens e w h)
 
 pub sized-start : (region : List ℕ) → Sized (opened region)
-sized-start region = nothing-fits (payload_capacity 0)
+sized-start region = leb-zero (payload_capacity 0)
 
 -- an attached party's record is sound
 same-side : (side : Side) → same_side side side ≡ true

@@ -1,4 +1,5 @@
 -- A turn of a side over a world: what a refused one leaves, and what a taken one knows and makes.
+use Rattle.std.specs.Cmp.{first_so, second_so}
 use Rattle.std.specs.Prelude.{None}
 use mathlib.Core.Path.{◌≡◌, refl, sym, ap, ◌∙◌}
 use mathlib.Core.Bool.{true, false}
@@ -6,7 +7,6 @@ use mathlib.Core.List.{List}
 use Prim.Native.Nat.{ℕ}
 use lib.Dec.{eqb}
 use lib.ListN.{length}
-use Rattle.words.proofs.Runs.{and_left, and_right}
 use Rattle.types.specs.declared.Side.{Side}
 use Rattle.types.specs.declared.Side.TheVariants.{Sender, Recorder}
 use Rattle.types.specs.declared.Party.{Party}
@@ -71,21 +71,21 @@ module _ (w : World) (side : Side) (payload lent : List ℕ) (fault : Fault) whe
 
     pub is-sound : sound side p ≡ true
     unfolding goes
-    is-sound = and_left (sound side p) _ tests
+    is-sound = first_so (sound side p) _ tests
 
     pub attached-here : p.own.attached ≡ true
     unfolding sound
-    attached-here = and_left p.own.attached _ is-sound
+    attached-here = first_so p.own.attached _ is-sound
 
     pub length-ok : length_ok side p.length p.own.slot ≡ true
     unfolding sound
     length-ok =
-        and_right (spins_ok p.own.spins) _
-        (and_right (slot_ok p.own.slot) _ (and_right (power_ok p.own.power) _ (and_right (same_side side p.own.side) _ (and_right p.own.attached _ is-sound))))
+        second_so (spins_ok p.own.spins) _
+        (second_so (slot_ok p.own.slot) _ (second_so (power_ok p.own.power) _ (second_so (same_side side p.own.side) _ (second_so p.own.attached _ is-sound))))
 
     pub lent_ok_lem : lent_ok (stance_of p.step) (lent_to side (length payload) (length lent)) p.length ≡ true
     unfolding goes
-    lent_ok_lem = and_left _ (fault_ok fault) (and_right (eqb (length w.region) (total_bytes p.own.power p.own.slot)) _ (and_right (sound side p) _ tests))
+    lent_ok_lem = first_so _ (fault_ok fault) (second_so (eqb (length w.region) (total_bytes p.own.power p.own.slot)) _ (second_so (sound side p) _ tests))
 
     -- the party after it, and the world
     abbrev value : ℕ

@@ -1,4 +1,5 @@
 -- 13 comes of a time-out that came to the call; and the look after the other's close is a recorder's.
+use Rattle.std.proofs.lemmas.Bool.{or_right}
 use Rattle.std.specs.Prelude.{None, Some}
 use mathlib.Core.Path.{◌≡◌, refl, sym, subst}
 use mathlib.Core.Bool.{Bool, true, false, not, ◌&&◌, ◌||◌}
@@ -175,10 +176,6 @@ same_true : (side : Side) → same_side side side ≡ true
 same_true Sender = refl
 same_true Recorder = refl
 
-or-more : (x b : Bool) → b ≡ true → (x || b) ≡ true
-or-more true b e = refl
-or-more false b e = e
-
 begun-glance : (side : Side) (p : Party) (g k o n : Bool) (q : Party) (b : Bool) → Glance side b p.step → Glance side false q.step
     → Glance side (pick (begun (begins p g k o n q).answer) false b) (begins p g k o n q).party.step
 begun-glance side p false k o n q b h f = h
@@ -253,7 +250,7 @@ module _ (P S v : ℕ) (on : Bool) (power-ok : power_ok P ≡ true) (slot-ok : s
   glance-happens σ (plays (Turn side) i o) w real b y = glance-turn σ side w real i o None b b (λ e. e) (λ s g e q f. absurd (let z : ◌≡◌ {A = ℕ} 0 1 = cc in omega arith)) y
   glance-happens σ (plays (Failing side n) i o) w real b y =
       let x = same_side σ side && (takes w side i o (Some n) && (at_wait (phase (party_in w side).step) && eqb n 110)) in
-      glance-turn σ side w real i o (Some n) b (x || b) (or-more x b) (λ s g e q f. rw (s, same_true side, g, q, f)) y
+      glance-turn σ side w real i o (Some n) b (x || b) (or_right x b) (λ s g e q f. rw (s, same_true side, g, q, f)) y
   glance-happens Sender (plays (Spurious Sender) i o) w real b y =
       let p = w.bench.sender in rouses-glance (Glance Sender b) p (sound Sender p) (is_sleeping (stance_of p.step)) (reply (at Look p) GoesOn) y (λ e. tt)
   glance-happens Recorder (plays (Spurious Recorder) i o) w real b y =
@@ -263,11 +260,11 @@ module _ (P S v : ℕ) (on : Bool) (power-ok : power_ok P ≡ true) (slot-ok : s
   glance-happens Sender (plays (TimeOut Sender) i o) w real b y =
       let p = w.bench.sender in
       let x = is_sleeping (stance_of p.step) in
-      rouses-glance (Glance Sender (x || b)) p (sound Sender p) x (reply (at (LastLook true) p) GoesOn) (glance-more Sender b (x || b) p.step (or-more x b) y) (λ e. rw e)
+      rouses-glance (Glance Sender (x || b)) p (sound Sender p) x (reply (at (LastLook true) p) GoesOn) (glance-more Sender b (x || b) p.step (or_right x b) y) (λ e. rw e)
   glance-happens Recorder (plays (TimeOut Recorder) i o) w real b y =
       let p = w.bench.recorder in
       let x = is_sleeping (stance_of p.step) in
-      rouses-glance (Glance Recorder (x || b)) p (sound Recorder p) x (reply (at (LastLook true) p) GoesOn) (glance-more Recorder b (x || b) p.step (or-more x b) y) (λ e. rw e)
+      rouses-glance (Glance Recorder (x || b)) p (sound Recorder p) x (reply (at (LastLook true) p) GoesOn) (glance-more Recorder b (x || b) p.step (or_right x b) y) (λ e. rw e)
   glance-happens Sender (plays (TimeOut Recorder) i o) w real b y = y
   glance-happens Recorder (plays (TimeOut Sender) i o) w real b y = y
   glance-happens Sender (plays (Push k n l) i o) w real b y =

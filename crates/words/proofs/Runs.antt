@@ -1,17 +1,8 @@
 -- Tests of a run of bytes: what they say of each byte of it, and how a run splits.
-use Rattle.std.proofs.Common.{◌≡◌, ℕ, zero, suc, ◌+◌, ◌<◌, Bool, true, false, ◌&&◌, eqb, List, [], ◌∷◌, ◌++◌, length, get_or, replicate, sym, refl, ◌∙◌, add-zero, add-suc, suc-add, arith, eq-eqb, ne_eqb}
+use Rattle.std.proofs.Common.{◌≡◌, ℕ, zero, suc, ◌+◌, ◌<◌, true, false, ◌&&◌, eqb, List, [], ◌∷◌, ◌++◌, length, get_or, replicate, sym, refl, ◌∙◌, add-zero, add-suc, suc-add, arith, eq-eqb, ne_eqb}
 use mathlib.Core.Bool.{and_assoc, and-false}
 use lib.ListN.{length-replicate, get_or-replicate, replicate-append-replicate}
 use Rattle.words.specs.Bytes.{zeros, bytes_are}
-
--- both tests hold where their conjunction does
-pub and_left : (a b : Bool) → (a && b) ≡ true → a ≡ true
-and_left true b e = refl
-and_left false b e = e
-
-pub and_right : (a b : Bool) → (a && b) ≡ true → b ≡ true
-and_right true b e = e
-and_right false b e = cc
 
 -- the place after the first, as a definition recurses and as a law counts
 step : (s : List ℕ) (i k : ℕ) → get_or s (suc i + k) 0 ≡ get_or s (i + suc k) 0
