@@ -1,5 +1,4 @@
 pub mod SizeLaws
-pub mod Bools
 pub mod Covered
 pub mod Fields
 pub mod SlotLaws

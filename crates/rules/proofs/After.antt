@@ -5,8 +5,8 @@ use mathlib.Core.List.{List}
 use mathlib.Core.Logic.{inr}
 use Prim.Native.Nat.{ℕ, ◌+◌, ◌^◌, ◌<◌, ◌≤◌}
 use native.Mathlib.Omega.{arith}
-use lib.Dec.{T}
 use lib.ListN.{length}
+use Rattle.layout.proofs.Headed.{counter-in, bell-in}
 use Rattle.words.specs.Bytes.{part}
 use Rattle.words.specs.Le.{le_at, put_le}
 use Rattle.words.specs.Wrap.{next}
@@ -89,55 +89,51 @@ bell-by-small (WaitBell a e) b c h = h
 bell-by-small (WakeBell a n) b c h = h
 
 -- a word that no access stores
-apart-all : (i w : ℕ) → T (clear (StoreCounter Sender 0) i w) → T (clear (StoreCounter Recorder 0) i w) → T (clear (RaiseBell NotEmpty) i w) → T (clear (RaiseBell NotFull) i w) → T (clear (SetFlag (Shutdown)) i w)
-    → (a : Access) → T (clear a i w)
-apart-all i w s r e f g None = tt
-apart-all i w s r e f g (LoadCounter side) = tt
-apart-all i w s r e f g LoadFlags = tt
-apart-all i w s r e f g (LoadBell b) = tt
-apart-all i w s r e f g (WriteSlot n) = tt
-apart-all i w s r e f g (ReadSlot n) = tt
+apart-all : (i w : ℕ) → clear (StoreCounter Sender 0) i w ≡ true → clear (StoreCounter Recorder 0) i w ≡ true → clear (RaiseBell NotEmpty) i w ≡ true → clear (RaiseBell NotFull) i w ≡ true → clear (SetFlag (Shutdown)) i w ≡ true
+    → (a : Access) → clear a i w ≡ true
+apart-all i w s r e f g None = refl
+apart-all i w s r e f g (LoadCounter side) = refl
+apart-all i w s r e f g LoadFlags = refl
+apart-all i w s r e f g (LoadBell b) = refl
+apart-all i w s r e f g (WriteSlot n) = refl
+apart-all i w s r e f g (ReadSlot n) = refl
 apart-all i w s r e f g (StoreCounter Sender n) = s
 apart-all i w s r e f g (StoreCounter Recorder n) = r
 apart-all i w s r e f g (RaiseBell NotEmpty) = e
 apart-all i w s r e f g (RaiseBell NotFull) = f
 apart-all i w s r e f g (SetFlag m) = g
-apart-all i w s r e f g (WaitBell b e') = tt
-apart-all i w s r e f g (WakeBell b n) = tt
+apart-all i w s r e f g (WaitBell b e') = refl
+apart-all i w s r e f g (WakeBell b n) = refl
 
 module _ (r : List ℕ) (own : Own) (tag : ℕ) (payload : List ℕ) (long : header_bytes ≤ length r) where
   abbrev after : Access → List ℕ
   after a = leaves_of r own a tag payload
 
   pub power-after : (a : Access) → le_at 1 (after a) power_at ≡ le_at 1 r power_at
-  power-after a = word_kept r own tag payload 1 power_at (omega arith) a (apart-all power_at 1 tt tt tt tt tt a)
+  power-after a = word_kept r own tag payload 1 power_at (omega arith) a (apart-all power_at 1 refl refl refl refl refl a)
 
   pub slot-size-after : (a : Access) → le_at 4 (after a) slot_size_at ≡ le_at 4 r slot_size_at
-  slot-size-after a = word_kept r own tag payload 4 slot_size_at (omega arith) a (apart-all slot_size_at 4 tt tt tt tt tt a)
+  slot-size-after a = word_kept r own tag payload 4 slot_size_at (omega arith) a (apart-all slot_size_at 4 refl refl refl refl refl a)
 
-  flags-kept : (a : Access) → T (clear a flags_at 4) → le_at 4 (after a) flags_at ≡ le_at 4 r flags_at
+  flags-kept : (a : Access) → clear a flags_at 4 ≡ true → le_at 4 (after a) flags_at ≡ le_at 4 r flags_at
   flags-kept a t = word_kept r own tag payload 4 flags_at (omega arith) a t
 
   pub flags-after : le_at 4 r flags_at < reserved_from → (a : Access) → le_at 4 (after a) flags_at ≡ flags_by a (le_at 4 r flags_at)
-  flags-after h None = flags-kept None tt
-  flags-after h (LoadCounter side) = flags-kept (LoadCounter side) tt
-  flags-after h LoadFlags = flags-kept LoadFlags tt
-  flags-after h (LoadBell b) = flags-kept (LoadBell b) tt
-  flags-after h (WriteSlot n) = flags-kept (WriteSlot n) tt
-  flags-after h (ReadSlot n) = flags-kept (ReadSlot n) tt
-  flags-after h (StoreCounter Sender n) = flags-kept (StoreCounter Sender n) tt
-  flags-after h (StoreCounter Recorder n) = flags-kept (StoreCounter Recorder n) tt
-  flags-after h (RaiseBell NotEmpty) = flags-kept (RaiseBell NotEmpty) tt
-  flags-after h (RaiseBell NotFull) = flags-kept (RaiseBell NotFull) tt
+  flags-after h None = flags-kept None refl
+  flags-after h (LoadCounter side) = flags-kept (LoadCounter side) refl
+  flags-after h LoadFlags = flags-kept LoadFlags refl
+  flags-after h (LoadBell b) = flags-kept (LoadBell b) refl
+  flags-after h (WriteSlot n) = flags-kept (WriteSlot n) refl
+  flags-after h (ReadSlot n) = flags-kept (ReadSlot n) refl
+  flags-after h (StoreCounter Sender n) = flags-kept (StoreCounter Sender n) refl
+  flags-after h (StoreCounter Recorder n) = flags-kept (StoreCounter Recorder n) refl
+  flags-after h (RaiseBell NotEmpty) = flags-kept (RaiseBell NotEmpty) refl
+  flags-after h (RaiseBell NotFull) = flags-kept (RaiseBell NotFull) refl
   flags-after h (SetFlag m) = flag-set r own tag payload long m (omega (arith, flags-small m (le_at 4 r flags_at) h))
-  flags-after h (WaitBell b e) = flags-kept (WaitBell b e) tt
-  flags-after h (WakeBell b n) = flags-kept (WakeBell b n) tt
+  flags-after h (WaitBell b e) = flags-kept (WaitBell b e) refl
+  flags-after h (WakeBell b n) = flags-kept (WakeBell b n) refl
 
-  counter-in : (side : Side) → counter_at side + 8 ≤ header_bytes
-  counter-in Sender = omega arith
-  counter-in Recorder = omega arith
-
-  counter-kept : (side : Side) (a : Access) → T (clear a (counter_at side) 8) → le_at 8 (after a) (counter_at side) ≡ le_at 8 r (counter_at side)
+  counter-kept : (side : Side) (a : Access) → clear a (counter_at side) 8 ≡ true → le_at 8 (after a) (counter_at side) ≡ le_at 8 r (counter_at side)
   counter-kept side a t = word_kept r own tag payload 8 (counter_at side) (counter-in side) a t
 
   -- a stored counter is a word
@@ -155,51 +151,47 @@ module _ (r : List ℕ) (own : Own) (tag : ℕ) (payload : List ℕ) (long : hea
   Word (WakeBell b n) = Unit
 
   pub counter-after : (side : Side) (a : Access) → Word a → le_at 8 (after a) (counter_at side) ≡ counter_by a side (le_at 8 r (counter_at side))
-  counter-after side None h = counter-kept side None tt
-  counter-after side (LoadCounter s) h = counter-kept side (LoadCounter s) tt
-  counter-after side LoadFlags h = counter-kept side LoadFlags tt
-  counter-after side (LoadBell b) h = counter-kept side (LoadBell b) tt
-  counter-after side (WriteSlot n) h = counter-kept side (WriteSlot n) tt
-  counter-after side (ReadSlot n) h = counter-kept side (ReadSlot n) tt
+  counter-after side None h = counter-kept side None refl
+  counter-after side (LoadCounter s) h = counter-kept side (LoadCounter s) refl
+  counter-after side LoadFlags h = counter-kept side LoadFlags refl
+  counter-after side (LoadBell b) h = counter-kept side (LoadBell b) refl
+  counter-after side (WriteSlot n) h = counter-kept side (WriteSlot n) refl
+  counter-after side (ReadSlot n) h = counter-kept side (ReadSlot n) refl
   counter-after Sender (StoreCounter Sender n) h = counter-stored r own tag payload long Sender n h
-  counter-after Sender (StoreCounter Recorder n) h = counter-kept Sender (StoreCounter Recorder n) tt
-  counter-after Recorder (StoreCounter Sender n) h = counter-kept Recorder (StoreCounter Sender n) tt
+  counter-after Sender (StoreCounter Recorder n) h = counter-kept Sender (StoreCounter Recorder n) refl
+  counter-after Recorder (StoreCounter Sender n) h = counter-kept Recorder (StoreCounter Sender n) refl
   counter-after Recorder (StoreCounter Recorder n) h = counter-stored r own tag payload long Recorder n h
-  counter-after Sender (RaiseBell NotEmpty) h = counter-kept Sender (RaiseBell NotEmpty) tt
-  counter-after Sender (RaiseBell NotFull) h = counter-kept Sender (RaiseBell NotFull) tt
-  counter-after Recorder (RaiseBell NotEmpty) h = counter-kept Recorder (RaiseBell NotEmpty) tt
-  counter-after Recorder (RaiseBell NotFull) h = counter-kept Recorder (RaiseBell NotFull) tt
-  counter-after Sender (SetFlag m) h = counter-kept Sender (SetFlag m) tt
-  counter-after Recorder (SetFlag m) h = counter-kept Recorder (SetFlag m) tt
-  counter-after side (WaitBell b e) h = counter-kept side (WaitBell b e) tt
-  counter-after side (WakeBell b n) h = counter-kept side (WakeBell b n) tt
+  counter-after Sender (RaiseBell NotEmpty) h = counter-kept Sender (RaiseBell NotEmpty) refl
+  counter-after Sender (RaiseBell NotFull) h = counter-kept Sender (RaiseBell NotFull) refl
+  counter-after Recorder (RaiseBell NotEmpty) h = counter-kept Recorder (RaiseBell NotEmpty) refl
+  counter-after Recorder (RaiseBell NotFull) h = counter-kept Recorder (RaiseBell NotFull) refl
+  counter-after Sender (SetFlag m) h = counter-kept Sender (SetFlag m) refl
+  counter-after Recorder (SetFlag m) h = counter-kept Recorder (SetFlag m) refl
+  counter-after side (WaitBell b e) h = counter-kept side (WaitBell b e) refl
+  counter-after side (WakeBell b n) h = counter-kept side (WakeBell b n) refl
 
-  bell-in : (b : Bell) → bell_at b + 4 ≤ header_bytes
-  bell-in NotEmpty = omega arith
-  bell-in NotFull = omega arith
-
-  bell-kept : (b : Bell) (a : Access) → T (clear a (bell_at b) 4) → le_at 4 (after a) (bell_at b) ≡ le_at 4 r (bell_at b)
+  bell-kept : (b : Bell) (a : Access) → clear a (bell_at b) 4 ≡ true → le_at 4 (after a) (bell_at b) ≡ le_at 4 r (bell_at b)
   bell-kept b a t = word_kept r own tag payload 4 (bell_at b) (bell-in b) a t
 
   pub bell-after : (b : Bell) (a : Access) → le_at 4 (after a) (bell_at b) ≡ bell_by a b (le_at 4 r (bell_at b))
-  bell-after b None = bell-kept b None tt
-  bell-after b (LoadCounter s) = bell-kept b (LoadCounter s) tt
-  bell-after b LoadFlags = bell-kept b LoadFlags tt
-  bell-after b (LoadBell c) = bell-kept b (LoadBell c) tt
-  bell-after b (WriteSlot n) = bell-kept b (WriteSlot n) tt
-  bell-after b (ReadSlot n) = bell-kept b (ReadSlot n) tt
-  bell-after NotEmpty (StoreCounter Sender n) = bell-kept NotEmpty (StoreCounter Sender n) tt
-  bell-after NotEmpty (StoreCounter Recorder n) = bell-kept NotEmpty (StoreCounter Recorder n) tt
-  bell-after NotFull (StoreCounter Sender n) = bell-kept NotFull (StoreCounter Sender n) tt
-  bell-after NotFull (StoreCounter Recorder n) = bell-kept NotFull (StoreCounter Recorder n) tt
+  bell-after b None = bell-kept b None refl
+  bell-after b (LoadCounter s) = bell-kept b (LoadCounter s) refl
+  bell-after b LoadFlags = bell-kept b LoadFlags refl
+  bell-after b (LoadBell c) = bell-kept b (LoadBell c) refl
+  bell-after b (WriteSlot n) = bell-kept b (WriteSlot n) refl
+  bell-after b (ReadSlot n) = bell-kept b (ReadSlot n) refl
+  bell-after NotEmpty (StoreCounter Sender n) = bell-kept NotEmpty (StoreCounter Sender n) refl
+  bell-after NotEmpty (StoreCounter Recorder n) = bell-kept NotEmpty (StoreCounter Recorder n) refl
+  bell-after NotFull (StoreCounter Sender n) = bell-kept NotFull (StoreCounter Sender n) refl
+  bell-after NotFull (StoreCounter Recorder n) = bell-kept NotFull (StoreCounter Recorder n) refl
   bell-after NotEmpty (RaiseBell NotEmpty) = bell-raised r own tag payload long NotEmpty
-  bell-after NotEmpty (RaiseBell NotFull) = bell-kept NotEmpty (RaiseBell NotFull) tt
-  bell-after NotFull (RaiseBell NotEmpty) = bell-kept NotFull (RaiseBell NotEmpty) tt
+  bell-after NotEmpty (RaiseBell NotFull) = bell-kept NotEmpty (RaiseBell NotFull) refl
+  bell-after NotFull (RaiseBell NotEmpty) = bell-kept NotFull (RaiseBell NotEmpty) refl
   bell-after NotFull (RaiseBell NotFull) = bell-raised r own tag payload long NotFull
-  bell-after NotEmpty (SetFlag m) = bell-kept NotEmpty (SetFlag m) tt
-  bell-after NotFull (SetFlag m) = bell-kept NotFull (SetFlag m) tt
-  bell-after b (WaitBell c e) = bell-kept b (WaitBell c e) tt
-  bell-after b (WakeBell c n) = bell-kept b (WakeBell c n) tt
+  bell-after NotEmpty (SetFlag m) = bell-kept NotEmpty (SetFlag m) refl
+  bell-after NotFull (SetFlag m) = bell-kept NotFull (SetFlag m) refl
+  bell-after b (WaitBell c e) = bell-kept b (WaitBell c e) refl
+  bell-after b (WakeBell c n) = bell-kept b (WakeBell c n) refl
 
   -- a part of the ring: only a written slot changes
   stored-elsewhere : (w j x i n : ℕ) → j + w ≤ header_bytes → header_bytes ≤ i → i + n ≤ length r → part (put_le w r j x) i n ≡ part r i n

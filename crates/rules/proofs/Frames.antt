@@ -2,20 +2,19 @@
 use mathlib.Core.Path.{◌≡◌, refl}
 use mathlib.Core.Bool.{Bool, true, ◌||◌}
 use mathlib.Core.List.{List}
-use mathlib.Core.Logic.{inl, inr}
+use mathlib.Core.Logic.{inl}
 use Prim.Native.Nat.{ℕ, ◌+◌, ◌^◌, ◌<◌, ◌≤◌}
 use native.Mathlib.Omega.{arith}
-use lib.Dec.{T, leb, leb→le}
+use lib.Dec.{leb}
 use lib.ListN.{length}
+use Rattle.layout.proofs.Headed.{counter-in, bell-in}
+use Rattle.layout.proofs.Fields.{apart-field}
 use Rattle.words.specs.Le.{le_at}
 use Rattle.words.specs.Wrap.{next}
-use Rattle.words.proofs.Sets.{Apart}
 use Rattle.words.proofs.Laws.{le_at-ext, le_at-put_le, le_at-put_le-other, length-put_le}
 use Rattle.words.proofs.Wrapped.{plus-lt}
 use Rattle.types.specs.declared.Side.{Side}
-use Rattle.types.specs.declared.Side.TheVariants.{Sender, Recorder}
 use Rattle.types.specs.declared.Bell.{Bell}
-use Rattle.types.specs.declared.Bell.TheVariants.{NotEmpty, NotFull}
 use Rattle.types.specs.declared.Mark.{Mark}
 use Rattle.types.specs.declared.Own.{Own}
 use Rattle.types.specs.declared.Access.{Access}
@@ -24,16 +23,12 @@ use Rattle.layout.specs.Limits.{header_bytes}
 use Rattle.layout.specs.Flags.{worth, set_bit}
 use Rattle.layout.specs.Header.{flags_at, counter_at, bell_at}
 use Rattle.layout.specs.Slots.{slot_at, slot_put}
-use Rattle.layout.proofs.Bools.{or_case}
 use Rattle.layout.proofs.SlotLaws.{slot_put-other, length-slot_put}
 use Rattle.rules.specs.Access.{place_of, leaves_of}
 
 -- the w bytes from i on are apart from what the access stores in the header
 abbrev away : (j v i w : ℕ) → Bool
 away j v i w = leb (i + w) j || leb (j + v) i
-
-away-apart : (j v i w : ℕ) → T (away j v i w) → Apart j v i w
-away-apart j v i w t = elim (or_case (leb (i + w) j) (leb (j + v) i) t) as (λ x. Apart j v i w) [ inl p ↦ inl (leb→le (i + w) j p) | inr p ↦ inr (leb→le (j + v) i p) ]
 
 abbrev pub clear : Access → (i w : ℕ) → Bool
 clear None i w = true
@@ -63,7 +58,7 @@ module _ (r : List ℕ) (own : Own) (tag : ℕ) (payload : List ℕ) where
   length-leaves (WaitBell b e) = refl
   length-leaves (WakeBell b n) = refl
 
-  pub word_kept : (w i : ℕ) → i + w ≤ header_bytes → (a : Access) → T (clear a i w) → le_at w (leaves_of r own a tag payload) i ≡ le_at w r i
+  pub word_kept : (w i : ℕ) → i + w ≤ header_bytes → (a : Access) → clear a i w ≡ true → le_at w (leaves_of r own a tag payload) i ≡ le_at w r i
   unfolding leaves_of slot_at
   word_kept w i h None t = refl
   word_kept w i h (LoadCounter side) t = refl
@@ -72,19 +67,11 @@ module _ (r : List ℕ) (own : Own) (tag : ℕ) (payload : List ℕ) where
   word_kept w i h (WriteSlot n) t =
       le_at-ext w (slot_put r (place_of own n) tag payload) r i i (λ k l. slot_put-other r (place_of own n) tag payload (i + k) (inl (omega arith)))
   word_kept w i h (ReadSlot n) t = refl
-  word_kept w i h (StoreCounter side n) t = le_at-put_le-other w 8 r i (counter_at side) n (away-apart (counter_at side) 8 i w t)
-  word_kept w i h (RaiseBell b) t = le_at-put_le-other w 4 r i (bell_at b) (next 32 (le_at 4 r (bell_at b))) (away-apart (bell_at b) 4 i w t)
-  word_kept w i h (SetFlag m) t = le_at-put_le-other w 4 r i flags_at (set_bit (worth m) (le_at 4 r flags_at)) (away-apart flags_at 4 i w t)
+  word_kept w i h (StoreCounter side n) t = le_at-put_le-other w 8 r i (counter_at side) n (apart-field i w 8 (counter_at side) t)
+  word_kept w i h (RaiseBell b) t = le_at-put_le-other w 4 r i (bell_at b) (next 32 (le_at 4 r (bell_at b))) (apart-field i w 4 (bell_at b) t)
+  word_kept w i h (SetFlag m) t = le_at-put_le-other w 4 r i flags_at (set_bit (worth m) (le_at 4 r flags_at)) (apart-field i w 4 flags_at t)
   word_kept w i h (WaitBell b e) t = refl
   word_kept w i h (WakeBell b n) t = refl
-
-  counter-in : (side : Side) → counter_at side + 8 ≤ header_bytes
-  counter-in Sender = omega arith
-  counter-in Recorder = omega arith
-
-  bell-in : (b : Bell) → bell_at b + 4 ≤ header_bytes
-  bell-in NotEmpty = omega arith
-  bell-in NotFull = omega arith
 
   -- what was stored is read
   pub counter-stored : header_bytes ≤ length r → (side : Side) (n : ℕ) → n < 2 ^ 64 → le_at 8 (leaves_of r own (StoreCounter side n) tag payload) (counter_at side) ≡ n
