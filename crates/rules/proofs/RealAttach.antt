@@ -4,8 +4,9 @@ use mathlib.Core.Bool.{Bool, true, false}
 use mathlib.Core.List.{List, [], ◌∷◌}
 use Prim.Native.Nat.{ℕ, zero, suc}
 use native.Mathlib.Omega.{arith}
-use lib.Dec.{T, eqb}
+use lib.Dec.{eqb}
 use lib.ListN.{length}
+use Rattle.std.specs.Cmp.{first_so, second_so}
 use Rattle.std.proofs.lemmas.Bool.{not-true}
 use Rattle.words.specs.Le.{le_at, put_le}
 use Rattle.types.specs.Answers.{number, Test, test, first_of}
@@ -27,7 +28,7 @@ use Rattle.rules.specs.Phase.{Phase, resting, looking, copying, publishing, tell
 use Rattle.rules.proofs.After.{counter-after, bell-after}
 use Rattle.rules.proofs.Kept.{header-in, flags-are, fixed_kept}
 use Rattle.rules.proofs.Ring.{holds_kept}
-use Rattle.rules.proofs.Refusals.{refuses, all-refuse, first-refuses, others-refuse, refusal-number}
+use Rattle.rules.proofs.Refusals.{refuses, all-refuse, refusal-number}
 use Rattle.rules.proofs.Hands.{in-hand-none}
 use Rattle.rules.proofs.RealTurn.{both-sides}
 use Rattle.rules.proofs.RealCalls.{seat-one, seat-two}
@@ -39,22 +40,22 @@ test_at [] k = true
 test_at (test b a ∷ cs) zero = b
 test_at (test b a ∷ cs) (suc k) = test_at cs k
 
-done-test : (cs : List Test) → T (all-refuse cs) → eqb (number (first_of cs)) 0 ≡ true → (k : ℕ) → test_at cs k ≡ true
+done-test : (cs : List Test) → all-refuse cs ≡ true → eqb (number (first_of cs)) 0 ≡ true → (k : ℕ) → test_at cs k ≡ true
 done-test [] t e k = refl
 done-test (test true a ∷ cs) t e zero = refl
-done-test (test true a ∷ cs) t e (suc k) = done-test cs (others-refuse (refuses a) (all-refuse cs) t) e k
+done-test (test true a ∷ cs) t e (suc k) = done-test cs (second_so (refuses a) (all-refuse cs) t) e k
 done-test (test false a ∷ cs) t e k =
-    absurd (let f : eqb (number a) 0 ≡ false = refusal-number a (first-refuses (refuses a) (all-refuse cs) t) in let z : ◌≡◌ {A = ℕ} 0 1 = cc in omega arith)
+    absurd (let f : eqb (number a) 0 ≡ false = refusal-number a (first_so (refuses a) (all-refuse cs) t) in let z : ◌≡◌ {A = ℕ} 0 1 = cc in omega arith)
 
 -- an accepted count is within the limit
 pub count-few : (r : List ℕ) (side : Side) (spins : ℕ) → eqb (number (attach_answer r side spins)) 0 ≡ true → spins_ok spins ≡ true
 unfolding attach_answer attach_checks region_checks ring_checks flag_checks
-count-few r side spins e = done-test (attach_checks r side spins) tt e 0
+count-few r side spins e = done-test (attach_checks r side spins) refl e 0
 
 -- an accepted side's bit was clear
 pub bit-clear : (r : List ℕ) (side : Side) (spins : ℕ) → eqb (number (attach_answer r side spins)) 0 ≡ true → bit_on (worth (attach_mark side)) (le_at 4 r flags_at) ≡ false
 unfolding attach_answer attach_checks region_checks ring_checks flag_checks
-bit-clear r side spins e = not-true (bit_on (worth (attach_mark side)) (le_at 4 r flags_at)) (done-test (attach_checks r side spins) tt e 12)
+bit-clear r side spins e = not-true (bit_on (worth (attach_mark side)) (le_at 4 r flags_at)) (done-test (attach_checks r side spins) refl e 12)
 
 module _ (P S v : ℕ) (on : Bool) (power-ok : power_ok P ≡ true) (slot-ok : slot_ok S ≡ true) (w : World) (real : Real P S v on w) (side : Side) where
   abbrev r : List ℕ

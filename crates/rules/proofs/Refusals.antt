@@ -1,11 +1,11 @@
 -- What every answer leaves behind: document 01's paragraph under its table, for every call and turn.
 use mathlib.Core.Path.{◌≡◌, refl, ap, ap₂, ◌∙◌}
-use mathlib.Core.Bool.{Bool, true, false, not, ◌&&◌}
+use mathlib.Core.Bool.{Bool, true, false, not, ◌&&◌, false≢true}
 use mathlib.Core.List.{List, [], ◌∷◌}
 use Prim.Native.Nat.{ℕ}
-use lib.Dec.{T, leb, eqb}
+use lib.Dec.{leb, eqb}
 use lib.ListN.{length}
-use Rattle.std.specs.Cmp.{second_so}
+use Rattle.std.specs.Cmp.{second_so, first_so}
 use Rattle.types.specs.Pick.{pick}
 use Rattle.types.specs.Answers.{number, Test, test, first_of}
 use Rattle.types.specs.declared.Side.{Side}
@@ -59,83 +59,75 @@ refuses Nothing = true
 refuses Begun = false
 refuses GoesOn = false
 
-unchanged-leaves : (x : Answer) (a : Ask) → T (refuses x) → Unchanged a → LeavesKept x a
-unchanged-leaves (Done l t) a h u = absurd h
+unchanged-leaves : (x : Answer) (a : Ask) → refuses x ≡ true → Unchanged a → LeavesKept x a
+unchanged-leaves (Done l t) a h u = absurd (false≢true h)
 unchanged-leaves InvalidMagic a h u = u
 unchanged-leaves UnsupportedVersion a h u = u
 unchanged-leaves InvalidHeaderSize a h u = u
 unchanged-leaves InvalidLayout a h u = u
 unchanged-leaves InvalidCapacity a h u = u
 unchanged-leaves InvalidSlotSize a h u = u
-unchanged-leaves CorruptIndices a h u = absurd h
-unchanged-leaves CorruptSlot a h u = absurd h
-unchanged-leaves Full a h u = absurd h
-unchanged-leaves Empty a h u = absurd h
-unchanged-leaves Closed a h u = absurd h
-unchanged-leaves Shutdown a h u = absurd h
-unchanged-leaves Timeout a h u = absurd h
+unchanged-leaves CorruptIndices a h u = absurd (false≢true h)
+unchanged-leaves CorruptSlot a h u = absurd (false≢true h)
+unchanged-leaves Full a h u = absurd (false≢true h)
+unchanged-leaves Empty a h u = absurd (false≢true h)
+unchanged-leaves Closed a h u = absurd (false≢true h)
+unchanged-leaves Shutdown a h u = absurd (false≢true h)
+unchanged-leaves Timeout a h u = absurd (false≢true h)
 unchanged-leaves WouldBlock a h u = u
-unchanged-leaves (OutputTooSmall n) a h u = absurd h
+unchanged-leaves (OutputTooSmall n) a h u = absurd (false≢true h)
 unchanged-leaves AlreadyAttached a h u = u
-unchanged-leaves (Syscall op e) a h u = absurd h
+unchanged-leaves (Syscall op e) a h u = absurd (false≢true h)
 unchanged-leaves PayloadTooLong a h u = u
 unchanged-leaves NotFullOff a h u = u
 unchanged-leaves BadCall a h u = u
 unchanged-leaves Nothing a h u = u
-unchanged-leaves Begun a h u = absurd h
-unchanged-leaves GoesOn a h u = absurd h
+unchanged-leaves Begun a h u = absurd (false≢true h)
+unchanged-leaves GoesOn a h u = absurd (false≢true h)
 
-pub refusal-number : (x : Answer) → T (refuses x) → eqb (number x) 0 ≡ false
-refusal-number (Done l t) h = absurd h
+pub refusal-number : (x : Answer) → refuses x ≡ true → eqb (number x) 0 ≡ false
+refusal-number (Done l t) h = absurd (false≢true h)
 refusal-number InvalidMagic h = refl
 refusal-number UnsupportedVersion h = refl
 refusal-number InvalidHeaderSize h = refl
 refusal-number InvalidLayout h = refl
 refusal-number InvalidCapacity h = refl
 refusal-number InvalidSlotSize h = refl
-refusal-number CorruptIndices h = absurd h
-refusal-number CorruptSlot h = absurd h
-refusal-number Full h = absurd h
-refusal-number Empty h = absurd h
-refusal-number Closed h = absurd h
-refusal-number Shutdown h = absurd h
-refusal-number Timeout h = absurd h
+refusal-number CorruptIndices h = absurd (false≢true h)
+refusal-number CorruptSlot h = absurd (false≢true h)
+refusal-number Full h = absurd (false≢true h)
+refusal-number Empty h = absurd (false≢true h)
+refusal-number Closed h = absurd (false≢true h)
+refusal-number Shutdown h = absurd (false≢true h)
+refusal-number Timeout h = absurd (false≢true h)
 refusal-number WouldBlock h = refl
-refusal-number (OutputTooSmall n) h = absurd h
+refusal-number (OutputTooSmall n) h = absurd (false≢true h)
 refusal-number AlreadyAttached h = refl
-refusal-number (Syscall op e) h = absurd h
+refusal-number (Syscall op e) h = absurd (false≢true h)
 refusal-number PayloadTooLong h = refl
 refusal-number NotFullOff h = refl
 refusal-number BadCall h = refl
 refusal-number Nothing h = refl
-refusal-number Begun h = absurd h
-refusal-number GoesOn h = absurd h
+refusal-number Begun h = absurd (false≢true h)
+refusal-number GoesOn h = absurd (false≢true h)
 
 -- a list of checks whose every answer is such
 abbrev pub all-refuse : List Test → Bool
 all-refuse [] = true
 all-refuse (test b a ∷ cs) = refuses a && all-refuse cs
 
-pub first-refuses : (a : Bool) (b : Bool) → T (a && b) → T a
-first-refuses true b t = tt
-first-refuses false b t = t
-
-pub others-refuse : (a : Bool) (b : Bool) → T (a && b) → T b
-others-refuse true b t = t
-others-refuse false b t = absurd t
-
-checked-leaves : {cs : List Test} {x : Answer} (w : Ask) → T (all-refuse cs) → AtRest w → ((y : Answer) → first_of cs ≡ y → T (refuses y) → Unchanged w) → Checked cs x → LeavesKept x w
+checked-leaves : {cs : List Test} {x : Answer} (w : Ask) → all-refuse cs ≡ true → AtRest w → ((y : Answer) → first_of cs ≡ y → refuses y ≡ true → Unchanged w) → Checked cs x → LeavesKept x w
 checked-leaves w t r u passed = r
 checked-leaves w t r u (fails {b} {a} {cs} e) =
-    let s = first-refuses (refuses a) (all-refuse cs) t in
+    let s = first_so (refuses a) (all-refuse cs) t in
     unchanged-leaves a w s (u a (rw e) s)
-checked-leaves w t r u (holds {b} {a} {x} {cs} e c) = checked-leaves w (others-refuse (refuses a) (all-refuse cs) t) r (λ z h s. u z (rw e h) s) c
+checked-leaves w t r u (holds {b} {a} {x} {cs} e c) = checked-leaves w (second_so (refuses a) (all-refuse cs) t) r (λ z h s. u z (rw e h) s) c
 
-create-refused : (r : List ℕ) (power slot : ℕ) (notfull : Bool) (start : ℕ) (y : Answer) → first_of (create_checks (length r) power slot) ≡ y → T (refuses y) → Unchanged (create r power slot notfull start)
+create-refused : (r : List ℕ) (power slot : ℕ) (notfull : Bool) (start : ℕ) (y : Answer) → first_of (create_checks (length r) power slot) ≡ y → refuses y ≡ true → Unchanged (create r power slot notfull start)
 unfolding create_leaves create_answer
 create-refused r power slot notfull start y e t = (rw (e, refusal-number y t), tt)
 
-attach-refused : (r : List ℕ) (side : Side) (spins : ℕ) (y : Answer) → first_of (attach_checks r side spins) ≡ y → T (refuses y) → Unchanged (attach r side spins)
+attach-refused : (r : List ℕ) (side : Side) (spins : ℕ) (y : Answer) → first_of (attach_checks r side spins) ≡ y → refuses y ≡ true → Unchanged (attach r side spins)
 unfolding attach_leaves attach_reply attach_answer
 attach-refused r side spins y e t = (rw (e, refusal-number y t), rw (e, refusal-number y t))
 
@@ -213,8 +205,8 @@ attach-rests r side spins = either-rests (eqb (number (attach_answer r side spin
 
 given-leaves : {a : Ask} {x : Answer} → Given a x → LeavesKept x a
 unfolding attach_checks region_checks ring_checks flag_checks push_spec pop_spec close_spec shut_spec spurious_spec timeout_spec
-given-leaves (created {r} {power} {slot} {notfull} {start} c) = checked-leaves (create r power slot notfull start) tt tt (create-refused r power slot notfull start) c
-given-leaves (attached {r} {side} {spins} c) = checked-leaves (attach r side spins) tt (attach-rests r side spins) (attach-refused r side spins) c
+given-leaves (created {r} {power} {slot} {notfull} {start} c) = checked-leaves (create r power slot notfull start) refl tt (create-refused r power slot notfull start) c
+given-leaves (attached {r} {side} {spins} c) = checked-leaves (attach r side spins) refl (attach-rests r side spins) (attach-refused r side spins) c
 given-leaves (push-bad {p} {b} {t} {l} h) = (tt, party-of (bad-begin p (push-tests p b t l) h))
 given-leaves (pop-bad {p} {b} {l} h) = (tt, party-of (bad-begin p (pop-tests p b l) h))
 given-leaves (close-bad {side} {p} h) = (tt, party-of (bad-begin p (own-tests side p p.closed CloseSet) h))
