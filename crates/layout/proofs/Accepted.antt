@@ -106,6 +106,10 @@ both-in true Recorder = refl
 both-in false Sender = refl
 both-in false Recorder = refl
 
+pub first-option : (notfull : Bool) → bit_on not_full_on (first_flags notfull) ≡ notfull
+first-option true = refl
+first-option false = refl
+
 first_bit : (notfull : Bool) (side : Side) → set_bit (own_bit side) (first_flags notfull) ≡ first_flags notfull + own_bit side
 first_bit true Sender = refl
 first_bit true Recorder = refl
@@ -204,9 +208,5 @@ module _ (r : List ℕ) (power slot : ℕ) (notfull : Bool) (start : ℕ) (done 
         headed-slot r (ring_bytes power slot) power slot (first_flags notfull) start f,
         headed-flags r (ring_bytes power slot) power slot (first_flags notfull) start f,
         headed-counter r (ring_bytes power slot) power slot (first_flags notfull) start f side,
-        option notfull,
+        first-option notfull,
       )
-    where
-      option : (b : Bool) → bit_on not_full_on (first_flags b) ≡ b
-      option true = refl
-      option false = refl

@@ -9,13 +9,12 @@ use native.Mathlib.Omega.{arith}
 use lib.ListN.{length}
 use Rattle.types.specs.declared.Side.{Side}
 use Rattle.types.specs.declared.Side.TheVariants.{Sender, Recorder}
-use Rattle.types.specs.declared.Party.{Party}
 use Rattle.types.specs.declared.Step.{Step}
 use Rattle.types.specs.declared.Step.TheVariants.{Epoch}
 use Rattle.rules.specs.Sides.{other}
 use Rattle.rules.specs.Take.{stance_of, closed_after}
 use Rattle.rules.specs.Next.{next_at}
-use Rattle.rules.specs.Run.{Note, Trace, World, party_in, traced, rung_of}
+use Rattle.rules.specs.Run.{Note, Trace, World, party_in, rung_of}
 use Rattle.rules.specs.Premises.{FairTurn}
 use Rattle.rules.specs.Stretch.{Big, notes_of, before_copy, holds_epoch, Underway}
 use Rattle.rules.specs.Phase.{phase}
@@ -117,12 +116,6 @@ epoch-on g s next shut-wakes-again e = absurd (let u : ◌≡◌ {A = ℕ} 0 1 =
 -- a push or a pop does not close its party
 pub stays_open : (s : Step) → Calls (phase s) → (b : Bool) → closed_after (stance_of s) b ≡ b
 stays_open s y b = ⊎_elim (λ q. q) (λ q. absurd (subst (λ (u : Step). Calls (phase u)) q y)) (closed-by Sender 0 s (next_at s Sender 0) (does Sender 0 s) b)
-
-module _ (p : Party) (payload buffer : List ℕ) (t : Trace) where
-  -- the epoch's turn counts anew
-  pub counts-anew : (side : Side) → rung_of side (traced (next_at Epoch side p.counter) p payload buffer t) ≡ 0
-  counts-anew Sender = refl
-  counts-anew Recorder = refl
 
 pub both-notes : (side : Side) (t u : Trace) → notes_of side u ≡ notes_of side t → notes_of (other side) u ≡ notes_of (other side) t → (u.sent ≡ t.sent) × (u.delivered ≡ t.delivered)
 both-notes Sender t u a b = (a, b)

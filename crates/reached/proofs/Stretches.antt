@@ -36,13 +36,13 @@ use Rattle.rules.proofs.RealRun.{power-fits, slot-fits, real-reached, real-happe
 use Rattle.rules.proofs.Own.{waits_on}
 use Rattle.rules.proofs.Costs.{Calls, calls-on}
 use Rattle.rules.proofs.Effects.{rung-own}
-use Rattle.rules.proofs.Listening.{mover-is, trace-is}
+use Rattle.rules.proofs.Listening.{mover-is, trace-is, counts-anew}
 use Rattle.rules.proofs.Views.{Kind, rests, dreams as asleep, acts, kind}
 use Rattle.rules.proofs.Bound.{notes-kept, notes-own, no_store}
 use Rattle.rules.proofs.Asks.{in-call, typed-both, fair-both}
 use Rattle.rules.proofs.Sized.{blank_of, Sized, sized-turn, sized-happens, sized-run, sized-start, sound-here, takes-here}
 use Rattle.rules.proofs.Real.{nth, blank, Real}
-use Rattle.reached.proofs.Lasts.{BigFine, EpochFine, before_on, big-turn, both-notes, counts-anew, epoch-on, fair-turn, stays_open, under-way}
+use Rattle.reached.proofs.Lasts.{BigFine, EpochFine, before_on, big-turn, both-notes, epoch-on, fair-turn, stays_open, under-way}
 
 module _ (P S v : ℕ) (on : Bool) (power-ok : power_ok P ≡ true) (slot-ok : slot_ok S ≡ true) where
   record Able (side : Side) (w : World) : Type 0 where

@@ -37,8 +37,8 @@ use Rattle.rules.proofs.RealRun.{power-fits, slot-fits, real-reached, real-happe
 use Rattle.rules.proofs.Costs.{cost, Calls, slack-most, cost-slack, cost-none}
 use Rattle.rules.proofs.Fairly.{Ready, ready-happens, quiet-duty, dozes}
 use Rattle.rules.proofs.Causes.{room-is, ready-reached}
-use Rattle.rules.proofs.Heard.{none, duty}
-use Rattle.rules.proofs.Bound.{has-cause, Count, by-moves, by-calling, Stint, Awake, going-turned}
+use Rattle.rules.proofs.Heard.{none, duty, has-cause}
+use Rattle.rules.proofs.Bound.{Count, by-moves, by-calling, Stint, Awake, going-turned}
 use Rattle.rules.proofs.Real.{room_in, Real}
 
 -- where a call of a willing party may leave it
@@ -205,7 +205,7 @@ module _ (r : List ℕ) (P S : ℕ) (on : Bool) (v : ℕ) (fresh : Fresh r P S o
       let fair = fair-parts side hs ms (opened (created r P S on v)) a.0.1 in
       bounded-by true calling by-calling side (λ ms w. AllFair side ms w × Ready P S v on side w)
       (λ h hs w t real y. (y.0.1, ready-happens P S v on (power-fits r P S on v fresh) (slot-fits r P S on v fresh) side h w t y.0.0 real y.1))
-      (λ hs w y q e l z. dozes P S v on (rings (other side) on) side (other side) w (q refl) z y.1 (has-cause (room_in P S v on side w.trace) (stop_at side (le_at 4 w.region flags_at)) l))
+      (λ hs w y q e l z. dozes P S v on (rings (other side) on) side (other side) w (q refl) z y.1 (has-cause (room_in P S v on side w.trace) (stop_at side (le_at 4 w.region flags_at)) (inl l)))
       hs ms (a.0.0.0, a.0.0.1.1) (λ h. a.0.0.1.0) (fair.1, ready-reached r P S on v fresh side hs typed.0 fair.0) a.1
 
   pub bounded : (side : Side) → Bounded r P S on v side

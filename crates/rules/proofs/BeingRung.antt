@@ -2,9 +2,8 @@
 use mathlib.Core.Path.{◌≡◌, sym, subst}
 use mathlib.Core.Bool.{Bool, true, false}
 use mathlib.Core.List.{List}
-use mathlib.Core.Logic.{◌⊎◌, inl, inr}
-use Prim.Native.Nat.{ℕ, zero, suc, ◌<◌}
-use native.Mathlib.Omega.{arith}
+use mathlib.Core.Logic.{◌⊎◌}
+use Prim.Native.Nat.{ℕ, ◌<◌}
 use Rattle.words.specs.Le.{le_at}
 use Rattle.types.specs.declared.Side.{Side}
 use Rattle.types.specs.declared.Side.TheVariants.{Sender, Recorder}
@@ -15,7 +14,7 @@ use Rattle.rules.specs.Sides.{other, rings}
 use Rattle.rules.specs.Run.{World, party_in}
 use Rattle.rules.specs.Claims.{Fresh, reached}
 use Rattle.rules.specs.Both.{Ringing, checking, raising, waking, close-raising, close-waking, shut-raising, shut-waking, shut-raising-ne, shut-waking-ne, shut-raising-nf, shut-waking-nf, BeingRung}
-use Rattle.rules.proofs.Heard.{Cause, Due, duty}
+use Rattle.rules.proofs.Heard.{Cause, Due, duty, has-cause}
 use Rattle.rules.proofs.Listening.{ReadyAt, never}
 use Rattle.rules.proofs.Leads.{stop_at}
 use Rattle.rules.proofs.Causes.{room-is, ready-reached}
@@ -49,12 +48,6 @@ ringing Sender (ShutRaiseNf c f) k d = absurd d
 ringing Recorder (ShutRaiseNf c f) k d = (2, shut-raising-nf)
 ringing Sender (ShutWakeNf c f) k d = absurd d
 ringing Recorder (ShutWakeNf c f) k d = (1, shut-waking-nf)
-
-pub has-cause : (k : ℕ) (z : Bool) → (0 < k) ⊎ (z ≡ true) → Cause k z
-has-cause (suc k) z h = tt
-has-cause zero true h = tt
-has-cause zero false (inl h) = absurd (omega arith)
-has-cause zero false (inr h) = absurd (let z : ◌≡◌ {A = ℕ} 0 1 = cc in omega arith)
 
 pub due : (P S v : ℕ) (on h : Bool) (σ τ : Side) (w : World) → (party_in w σ).step ≡ Asleep → ReadyAt P S v on h σ τ w
     → Cause (room_in P S v on σ w.trace) (stop_at σ (le_at 4 w.region flags_at)) → Due true (duty τ (party_in w τ).step) (room_in P S v on σ w.trace)

@@ -29,7 +29,7 @@ use Rattle.rules.proofs.Leads.{Sight, Leads}
 use Rattle.rules.proofs.Does.{own_after, Does, does, nothing, looks, flags, reads, writes, takes as read, stores, raises, closes, shuts, waits as wait, wakes}
 use Rattle.rules.proofs.Taken.{turn_world, turn-refused}
 use Rattle.rules.proofs.RealTurn.{own_is, counter-is, access-is, next-step, leads-here, after_turn, turn-is-after}
-use Rattle.rules.proofs.Heard.{Cause, none, duty, room_by}
+use Rattle.rules.proofs.Heard.{none, duty, room_by}
 use Rattle.rules.proofs.Costs.{cost, Calls, own_room, fall, calls-on}
 use Rattle.rules.proofs.Listening.{duty-kept, mover-is, waiter-is, trace-is, room_after, other-room-after}
 use Rattle.rules.proofs.Fits.{no-spill}
@@ -140,10 +140,6 @@ pub no_store : (F : Step → Bool) (s : Step) → F s ≡ true → ((l g : ℕ) 
 no_store F s e h l g q =
     let u : true ≡ false = sym e ∙ ap F q ∙ h l g in
     let z : ◌≡◌ {A = ℕ} 0 1 = cc in omega arith
-
-pub has-cause : (k : ℕ) (z : Bool) → 0 < k → Cause k z
-has-cause zero z h = absurd (omega arith)
-has-cause (suc k) z h = tt
 
 module _ (P S v : ℕ) (on : Bool) where
   -- a stretch under way: the other owes nothing, the party is in a call or between calls, so many turns are left to it at

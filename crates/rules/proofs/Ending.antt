@@ -1,9 +1,10 @@
 -- T4: with a flag up, every call ends.
+use Rattle.std.proofs.lemmas.Bool.{or_left, or_right, or_cases}
 use Rattle.std.specs.Prelude.{None, Some}
 use mathlib.Core.Path.{◌≡◌, refl, sym, ap, ◌∙◌, subst}
-use mathlib.Core.Bool.{Bool, true, false, ◌&&◌, ◌||◌}
+use mathlib.Core.Bool.{Bool, true, false, ◌&&◌}
 use mathlib.Core.List.{List, [], ◌∷◌, ◌++◌}
-use mathlib.Core.Logic.{◌⊎◌, inl, inr}
+use mathlib.Core.Logic.{◌⊎◌, inl, inr, ⊎_elim}
 use Prim.Native.Nat.{ℕ, zero, suc, ◌+◌, ◌-◌, ◌<◌, ◌≤◌}
 use native.Mathlib.Omega.{arith}
 use borrow.Author.Tests.{leb-true, leb-false}
@@ -45,7 +46,7 @@ use Rattle.rules.proofs.Taken.{turn_world, turn-refused}
 use Rattle.rules.proofs.RealTurn.{next-step, leads-here, after_turn, turn-is-after}
 use Rattle.rules.proofs.RealCalls.{Idle, rests as at_rest, looks, glances, closes, shuts, Changed, seat-same, seat-one, seat-two, seated, push-changes, pop-changes, close-changes, shut-changes, spurious-changes, timeout-changes}
 use Rattle.rules.proofs.RealRun.{power-fits, slot-fits, real-reached, real-happens}
-use Rattle.rules.proofs.Heard.{Cause, none, duty}
+use Rattle.rules.proofs.Heard.{none, duty, has-cause}
 use Rattle.rules.proofs.Does.{less}
 use Rattle.rules.proofs.Costs.{own_room}
 use Rattle.rules.proofs.Nearer.{to_rest, room-le, near, nearer}
@@ -56,19 +57,12 @@ use Rattle.rules.proofs.Bound.{Count, by-moves, by-calling, moves-off, dreams-on
 use Rattle.rules.proofs.Asks.{run-parts, typed-parts, fair-parts}
 use Rattle.rules.proofs.Real.{room_in, Real}
 
-or-up : (a b c d : Bool) → (a ≡ true → c ≡ true) → (b ≡ true → d ≡ true) → (a || b) ≡ true → (c || d) ≡ true
-or-up true b c d f g e = rw (f refl) refl
-or-up false true true d f g e = refl
-or-up false true false d f g e = g refl
-or-up false false c d f g e = absurd (let z : ◌≡◌ {A = ℕ} 0 1 = cc in omega arith)
-
 stop-up : (side : Side) (a : Access) (f : ℕ) → f < reserved_from → stop_at side f ≡ true → stop_at side (flags_by a f) ≡ true
-stop-up side a f h =
-    or-up (bit_on (worth ShutMark) f) (bit_on (worth (close_mark (other side))) f) _ _ (flag_up a f h ShutMark) (flag_up a f h (close_mark (other side)))
-
-stop-cause : (k : ℕ) (z : Bool) → z ≡ true → Cause k z
-stop-cause zero z e = rw e tt
-stop-cause (suc k) z e = tt
+stop-up side a f h e =
+    ⊎_elim
+    (λ d. or_left (bit_on (worth ShutMark) (flags_by a f)) _ (flag_up a f h ShutMark d))
+    (λ c. or_right (bit_on (worth ShutMark) (flags_by a f)) _ (flag_up a f h (close_mark (other side)) c))
+    (or_cases (bit_on (worth ShutMark) f) (bit_on (worth (close_mark (other side))) f) e)
 
 -- at most one, and as many as there may be by its door
 pub one_more : (side : Side) → last_looks side ≤ 1
@@ -255,7 +249,7 @@ module _ (r : List ℕ) (P S : ℕ) (on : Bool) (v : ℕ) (fresh : Fresh r P S o
       let fair = fair-parts side hs ms (opened (created r P S on v)) f in
       ends_by calling by-calling side (λ ms w. AllFair side ms w × Ready P S v on side w)
       (λ h hs w t real y. (y.0.1, ready-happens P S v on (power-fits r P S on v fresh) (slot-fits r P S on v fresh) side h w t y.0.0 real y.1))
-      (λ hs w n y d c e. dozes P S v on (rings (other side) on) side (other side) w d.quiet e y.1 (stop-cause (room_in P S v on side w.trace) _ d.up))
+      (λ hs w n y d c e. dozes P S v on (rings (other side) on) side (other side) w d.quiet e y.1 (has-cause (room_in P S v on side w.trace) _ (inr d.up)))
       hs ms n t stop few own (fair.1, ready-reached r P S on v fresh side hs typed.0 fair.0) long
 
   -- and how many spins may follow

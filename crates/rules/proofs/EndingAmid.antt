@@ -2,7 +2,7 @@
 use mathlib.Core.Path.{◌≡◌, refl, sym, ap, ◌∙◌, subst}
 use mathlib.Core.Bool.{Bool, true, false, ◌||◌}
 use mathlib.Core.List.{List, [], ◌∷◌, ◌++◌}
-use Prim.Native.Nat.{ℕ, zero, suc, ◌+◌, ◌≤◌}
+use Prim.Native.Nat.{ℕ, ◌+◌, ◌≤◌}
 use native.Mathlib.Omega.{arith}
 use borrow.Author.Tests.{leb-true, leb-false}
 use lib.Dec.{leb}
@@ -32,7 +32,7 @@ use Rattle.rules.specs.Phase.{phase}
 use Rattle.rules.proofs.Leads.{last_at}
 use Rattle.rules.proofs.Does.{Does, does, nothing, flags, reads, writes, takes, stores, raises, closes, shuts, waits, wakes, looks as watches}
 use Rattle.rules.proofs.RealRun.{power-fits, slot-fits, real-reached}
-use Rattle.rules.proofs.Heard.{Cause, room_by}
+use Rattle.rules.proofs.Heard.{room_by}
 use Rattle.rules.proofs.Nearer.{room-le}
 use Rattle.rules.proofs.NearerAmid.{seen, to_rest, near}
 use Rattle.rules.proofs.Bound.{Count, by-moves}
@@ -42,10 +42,6 @@ use Rattle.rules.proofs.Ending.{one_more, looks-most}
 use Rattle.rules.proofs.Stops.{last-is}
 use Rattle.rules.proofs.Stopping.{Barred, Stretch, ending-run}
 use Rattle.rules.proofs.Real.{parts, room_in, Real}
-
-stop-cause : (k : ℕ) (z : Bool) → z ≡ true → Cause k z
-stop-cause zero z e = rw e tt
-stop-cause (suc k) z e = tt
 
 -- the greater of two numbers
 either-most : (a x : ℕ) → (a ≤ pick (leb x a) a x) × (x ≤ pick (leb x a) a x)

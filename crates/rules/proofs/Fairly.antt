@@ -1,7 +1,8 @@
 -- Along a run that is fair to a side, it may rely on the other; and T3 follows.
+use Rattle.std.proofs.lemmas.Bool.{false_from_ne_true}
 use Rattle.std.specs.Prelude.{None, Some}
 use mathlib.Core.Path.{◌≡◌, refl, sym, ap, ap₂, ◌∙◌, subst}
-use mathlib.Core.Bool.{Bool, true, false, ◌||◌}
+use mathlib.Core.Bool.{Bool, true, false, ◌||◌, true≢false}
 use mathlib.Core.List.{List, [], ◌∷◌}
 use mathlib.Core.Logic.{◌⊎◌, inl, inr, ⊎_elim}
 use Prim.Native.Nat.{ℕ, zero, suc, ◌^◌, ◌<◌}
@@ -80,10 +81,6 @@ unheard : (side : Side) (on : Bool) → rings (other side) on ≡ false → (sid
 unheard Sender on e = (refl, e)
 unheard Recorder on e = absurd (let z : ◌≡◌ {A = ℕ} 0 1 = cc in omega arith)
 
-quiet-mode : (b n : Bool) → (b ≡ true → n ≡ true) → n ≡ false → b ≡ false
-quiet-mode true n f e = absurd (let g = f refl in let z : ◌≡◌ {A = ℕ} 0 1 = cc in omega arith)
-quiet-mode false n f e = refl
-
 module _ (P S v : ℕ) (on : Bool) where
   -- a call of one's own, and of the other's
   pub called-own : (w : World) → Real P S v on w → (side : Side) (q : Party) → Changed side (party_in w side) q → (h : Bool) → rings (other side) on ≡ h
@@ -95,7 +92,7 @@ module _ (P S v : ℕ) (on : Bool) where
       let u = unheard side on r in
       let m : q.blocking ≡ false = ⊎_elim
       (λ e. e ∙ tries-false (party_in w side).blocking (party_in w side).step y)
-      (λ f. quiet-mode q.blocking (party_in w side).own.notfull f (ap (λ (o : Own). o.notfull) ((real.sides side).seat.in_place b.attached).0 ∙ u.1))
+      (λ f. false_from_ne_true q.blocking (λ e. true≢false (sym (f e) ∙ ap (λ (o : Own). o.notfull) ((real.sides side).seat.in_place b.attached).0 ∙ u.1)))
       (b.blocks u.0) in
       rw (seat-one side w.bench q) (idle-tries q.step q.blocking b.idle m)
 

@@ -1,11 +1,12 @@
 -- How a note fits, by the fields of its slot's header, and where a copy then leads.
 use mathlib.Core.Path.{◌≡◌, refl, ap}
-use mathlib.Core.Bool.{Bool, true, false, ◌||◌}
+use mathlib.Core.Bool.{Bool, true, false}
 use mathlib.Core.Logic.{◌⊎◌, inl, inr}
 use Prim.Native.Nat.{ℕ, ◌/◌, ◌<◌, ◌≤◌}
 use native.Mathlib.Omega.{arith}
 use borrow.Author.Tests.{lt-ltb, le-ltb, ltb-false}
 use lib.Dec.{ltb}
+use Rattle.std.proofs.lemmas.Bool.{or_left, or_right}
 use Rattle.types.specs.Pick.{pick}
 use Rattle.types.specs.declared.Side.{Side}
 use Rattle.types.specs.declared.Own.{Own}
@@ -16,24 +17,12 @@ use Rattle.layout.specs.Slots.{head_of}
 use Rattle.rules.specs.Looks.{head_bad, fit_of}
 use Rattle.rules.specs.Steps.{fit_move, copy_with, copy_move}
 
--- one of three tests
-any-true : (a b c : Bool) → (a ≡ true) ⊎ ((b ≡ true) ⊎ (c ≡ true)) → (a || (b || c)) ≡ true
-any-true true b c e = refl
-any-true false true c e = refl
-any-true false false true e = refl
-any-true false false false (inl e) = e
-any-true false false false (inr (inl e)) = e
-any-true false false false (inr (inr e)) = e
-
 -- how a header fits, by its fields
 module _ (h : SlotHead) (most named : ℕ) where
   is-bad : (most < h.length) ⊎ ((1 < h.flags) ⊎ (0 < h.zero)) → head_bad h most ≡ true
-  is-bad g = any-true (ltb most h.length) (ltb 0 (h.flags / 2)) (ltb 0 h.zero) (by g)
-    where
-      by : (most < h.length) ⊎ ((1 < h.flags) ⊎ (0 < h.zero)) → (ltb most h.length ≡ true) ⊎ ((ltb 0 (h.flags / 2) ≡ true) ⊎ (ltb 0 h.zero ≡ true))
-      by (inl l) = inl (lt-ltb most h.length l)
-      by (inr (inl f)) = inr (inl (lt-ltb 0 (h.flags / 2) (omega arith)))
-      by (inr (inr z)) = inr (inr (lt-ltb 0 h.zero z))
+  is-bad (inl l) = or_left (ltb most h.length) _ (lt-ltb most h.length l)
+  is-bad (inr (inl f)) = or_right (ltb most h.length) _ (or_left (ltb 0 (h.flags / 2)) _ (lt-ltb 0 (h.flags / 2) (omega arith)))
+  is-bad (inr (inr z)) = or_right (ltb most h.length) _ (or_right (ltb 0 (h.flags / 2)) _ (lt-ltb 0 h.zero z))
 
   pub fit-bad : (most < h.length) ⊎ ((1 < h.flags) ⊎ (0 < h.zero)) → fit_of h most named ≡ Bad
   unfolding fit_of

@@ -1,8 +1,9 @@
 -- No wake is lost: while a party waits with cause, the other is on its way to ring it. Numbers and phases alone.
 use mathlib.Core.Path.{◌≡◌, refl}
-use mathlib.Core.Bool.{Bool, true, false, ◌&&◌}
-use Prim.Native.Nat.{ℕ, zero, suc, ◌+◌}
+use mathlib.Core.Bool.{Bool, true, false, ◌&&◌, false≢true}
+use Prim.Native.Nat.{ℕ, zero, suc, ◌+◌, ◌<◌}
 use native.Mathlib.Omega.{arith}
+use mathlib.Core.Logic.{◌⊎◌, inl, inr}
 use Rattle.types.specs.declared.Side.{Side}
 use Rattle.types.specs.declared.Side.TheVariants.{Sender, Recorder}
 use Rattle.types.specs.declared.Step.{Step}
@@ -20,6 +21,12 @@ abbrev pub Cause : (room : ℕ) → (stop : Bool) → Type 0
 Cause (suc k) z = Unit
 Cause zero true = Unit
 Cause zero false = ⊥
+
+pub has-cause : (k : ℕ) (z : Bool) → (0 < k) ⊎ (z ≡ true) → Cause k z
+has-cause (suc k) z h = tt
+has-cause zero true h = tt
+has-cause zero false (inl h) = absurd (omega arith)
+has-cause zero false (inr h) = absurd (false≢true h)
 
 -- what a step still owes the other side: to check, to raise its bell, to wake its sleeper
 pub data Duty : Type 0 where

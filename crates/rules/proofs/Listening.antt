@@ -7,6 +7,7 @@ use native.Mathlib.Omega.{arith}
 use native.Mathlib.Nat.{add-zero}
 use borrow.Author.Tests.{le-ltb}
 use lib.Dec.{ltb}
+use Rattle.std.proofs.lemmas.Bool.{not_from_false}
 use Rattle.words.specs.Le.{le_at}
 use Rattle.words.specs.Wrap.{plus}
 use Rattle.words.proofs.Wrapped.{plus-differ}
@@ -84,9 +85,10 @@ pub never : (b : Bool) → Tries b sleeps → ⊥
 never true y = y
 never false y = y
 
-no-error : (ok : Bool) (n : ℕ) → ltb 0 n ≡ ok → n ≡ 0 → not ok ≡ true
-no-error true n e h = absurd (let f : ltb 0 n ≡ false = le-ltb 0 n (omega arith) in let z : ◌≡◌ {A = ℕ} 0 1 = cc in omega arith)
-no-error false n e h = refl
+-- the epoch's turn counts anew
+pub counts-anew : (p : Party) (payload buffer : List ℕ) (t : Trace) (side : Side) → rung_of side (traced (next_at Epoch side p.counter) p payload buffer t) ≡ 0
+counts-anew p payload buffer t Sender = refl
+counts-anew p payload buffer t Recorder = refl
 
 module _ (P S v : ℕ) (on : Bool) (power-ok : power_ok P ≡ true) (slot-ok : slot_ok S ≡ true) (w : World) (real : Real P S v on w) (side : Side) (payload lent : List ℕ) (fault : Fault)
     (g : takes w side payload lent fault ≡ true) where
@@ -176,7 +178,7 @@ module _ (P S v : ℕ) (on : Bool) (power-ok : power_ok P ≡ true) (slot-ok : s
       (theirs side _ s next (leads-here P S v on power-ok slot-ok w real side payload lent fault g) rung (not (ltb 0 (error_of fault))) (phase q.step) (rung_of (other side) t)
       (stop_at (other side) (le_at 4 r flags_at)) (stop_at (other side) (le_at 4 after.region flags_at))
       (λ u. ap (stop_at (other side)) (flags-same u))
-      (λ u z. no-error (ltb 0 (error_of fault)) (error_of fault) refl (lands u (asleep-step q.step z)))
+      (λ u z. not_from_false (ltb 0 (error_of fault)) (le-ltb 0 (error_of fault) (omega (arith, lands u (asleep-step q.step z)))))
       y)
   ready-other false rung lands y =
       rw (waiter-is, (roused (other side) q (woke_of (next_spec p) (error_of fault))).blocking)
@@ -188,11 +190,7 @@ module _ (P S v : ℕ) (on : Bool) (power-ok : power_ok P ≡ true) (slot-ok : s
       roused-elim (roused (other side) q (woke_of (next_spec p) (error_of fault))) (λ u. owing (other side) u k ≡ owing (other side) q.step k) refl (λ e. sym (ap (λ (u : Step). owing (other side) u k) e))
 
   epoch-zero : s ≡ Epoch → rung_of side after.trace ≡ 0
-  epoch-zero e = ap (rung_of side) trace-is ∙ rw e (by side)
-    where
-      by : (side : Side) → rung_of side (traced (next_at Epoch side p.counter) p payload buffer t) ≡ 0
-      by Sender = refl
-      by Recorder = refl
+  epoch-zero e = ap (rung_of side) trace-is ∙ rw e (counts-anew p payload buffer t side)
 
   pub rung-mine : (more : ℕ) → RungAt P S v on more side (other side) w → RungAt P S v on more side (other side) after
   rung-mine more y =

@@ -54,7 +54,7 @@ use Rattle.rules.proofs.Does.{Does, does, nothing, looks, flags, reads as epoch,
 use Rattle.rules.proofs.Leads.{Sight, asks, Leads, idles, finds, blocks, gives_up, copies, spills, tells, stores, owes, passes, raises, wakes, enters, stops, finds-spin, spins, reads, finds-again, stays, enters-again, stops-again, sleeps as falls-asleep, returns, ends, dreams, glances, glances-again, times-out, finds-last, finds-none, closes, closes-alone, close-raises, close-wakes, shuts, shut-raises, shut-wakes, shut-raises-again, shut-wakes-again}
 use Rattle.rules.proofs.FitLaws.{copy-by}
 use Rattle.rules.proofs.Seats.{moved, roused, roused-elim}
-use Rattle.rules.proofs.Taken.{turn_world, turn-refused}
+use Rattle.rules.proofs.Taken.{turn_world, turn-refused, same_true}
 use Rattle.rules.proofs.RealTurn.{own_is, next-step, leads-here, after_turn, turn-is-after}
 use Rattle.rules.proofs.RealAttach.{bit-clear}
 use Rattle.rules.proofs.RealRun.{power-fits, slot-fits, real-start, real-happens}
@@ -221,10 +221,6 @@ module _ (p : Party) (payload buffer : List ℕ) (t : Trace) (c : Call) where
       }
 
 -- a copy of what was lent, in the call of the mover alone
-same_true : (side : Side) → same_side side side ≡ true
-same_true Sender = refl
-same_true Recorder = refl
-
 same_false : (side : Side) → same_side (other side) side ≡ false
 same_false Sender = refl
 same_false Recorder = refl

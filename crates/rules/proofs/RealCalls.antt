@@ -5,6 +5,7 @@ use mathlib.Core.Logic.{◌⊎◌, inl, inr}
 use Prim.Native.Nat.{ℕ, ◌^◌, ◌<◌}
 use native.Mathlib.Omega.{arith}
 use lib.Dec.{T, leb}
+use Rattle.std.proofs.lemmas.Bool.{not-false}
 use Rattle.std.specs.Cmp.{first_so}
 use Rattle.types.specs.declared.Side.{Side}
 use Rattle.types.specs.declared.Side.TheVariants.{Sender, Recorder}
@@ -77,11 +78,6 @@ changed-by : (side : Side) (p x q : Party) (F : Type 0) → (F → Begun side p 
 changed-by side p x q F b (inl e) = inl e
 changed-by side p x q F b (inr e) = inr (rw e.0 (b e.1))
 
-only-heard : (b n : Bool) → (b && not n) ≡ false → b ≡ true → n ≡ true
-only-heard b true e h = refl
-only-heard true false e h = sym e
-only-heard false false e h = h
-
 pub push-changes : (p : Party) (b : Bool) (t l : ℕ) → t < 2 ^ 16 → Changed Sender p (push_spec p b t l).party
 unfolding push_spec
 push-changes p b t l h =
@@ -95,7 +91,7 @@ push-changes p b t l h =
       idle = looks;
       from = inl (ready-rests Sender p e.0);
       over = λ c. absurd (let z = sym c ∙ e.1.0 in let u : ◌≡◌ {A = ℕ} 0 1 = cc in omega arith);
-      blocks = λ s. inr (only-heard b p.own.notfull e.1.1);
+      blocks = λ s. inr (λ q. not-false p.own.notfull (rw q at e.1.1));
     })
     (begins-one p (ready Sender p) p.closed (b && not p.own.notfull) (not (leb l (payload_capacity p.own.slot))) (named b t l p))
 

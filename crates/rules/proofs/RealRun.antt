@@ -16,13 +16,13 @@ use Rattle.types.specs.declared.Party.{Party}
 use Rattle.types.specs.Faults.{Fault}
 use Rattle.types.specs.declared.Event.TheVariants.{Turn, Failing, Spurious, TimeOut, Push, Pop, Close, Shutdown}
 use Rattle.layout.specs.Limits.{power_ok, slot_ok, spins_ok, capacity, ring_bytes, total_bytes}
-use Rattle.layout.specs.Flags.{worth, not_full_on, reserved_from, bit_on, attach_mark, close_mark}
+use Rattle.layout.specs.Flags.{worth, reserved_from, bit_on, attach_mark, close_mark}
 use Rattle.layout.specs.Header.{flags_at, counter_at, bell_at}
 use Rattle.layout.specs.Create.{first_flags, created}
 use Rattle.layout.proofs.SizeLaws.{capacity-room}
 use Rattle.layout.specs.Whole.{Fitting}
 use Rattle.layout.proofs.Headed.{length-headed, headed-power, headed-slot, headed-flags, headed-counter, headed-bell}
-use Rattle.layout.proofs.Accepted.{tests, fits, first_small}
+use Rattle.layout.proofs.Accepted.{tests, fits, first_small, first-option}
 use Rattle.rules.specs.Sides.{sleep_bell}
 use Rattle.rules.specs.Calls.{push_spec, pop_spec, close_spec, shut_spec, spurious_spec, timeout_spec}
 use Rattle.rules.specs.Bench.{settled, played, played_leaves}
@@ -67,10 +67,6 @@ module _ (P S v : ℕ) (on : Bool) (power-ok : power_ok P ≡ true) (slot-ok : s
 fresh-small : (on : Bool) → first_flags on < reserved_from
 fresh-small true = omega arith
 fresh-small false = omega arith
-
-fresh-option : (on : Bool) → bit_on not_full_on (first_flags on) ≡ on
-fresh-option true = refl
-fresh-option false = refl
 
 fresh-closed : (on : Bool) (side : Side) → bit_on (worth (close_mark side)) (first_flags on) ≡ false
 fresh-closed true Sender = refl
@@ -165,7 +161,7 @@ module _ (r : List ℕ) (P S : ℕ) (on : Bool) (v : ℕ) (fresh : Fresh r P S o
               small = rw flags-are (fresh-small on);
               power_at = headed-power r (ring_bytes P S) P S (first_flags on) v made;
               slot_at = headed-slot r (ring_bytes P S) P S (first_flags on) v made;
-              option = rw flags-are (fresh-option on);
+              option = rw flags-are (first-option on);
             };
         queue = record { below = omega arith; above = omega arith; order = refl; ring = λ i h l. absurd (omega arith) };
         sides = side-starts;

@@ -174,9 +174,6 @@ module _ (side : Side) (p : Party) (q : Reply) where
   idle-rouse : sound side p ≡ true → is_sleeping (stance_of p.step) ≡ false → rouse ≡ reply p Nothing
   idle-rouse e h = ap₂ (λ (g s : Bool). rouses p g s q) e h
 
-  taken-rouse : sound side p ≡ true → is_sleeping (stance_of p.step) ≡ true → rouse ≡ q
-  taken-rouse e h = ap₂ (λ (g s : Bool). rouses p g s q) e h
-
 -- the party of a reply that is known
 party-of : {r : Reply} {p : Party} {a : Answer} → r ≡ reply p a → r.party ≡ p
 party-of e = ap (λ (x : Reply). x.party) e

@@ -23,14 +23,14 @@ use Rattle.rules.specs.Claims.{Fresh, reached}
 use Rattle.rules.specs.Both.{done_by, turns_by, Ringing, checking, raising, waking, close-raising, close-waking, shut-raising, shut-waking, shut-raising-ne, shut-waking-ne, shut-raising-nf, shut-waking-nf, Rousing}
 use Rattle.rules.proofs.Views.{is-asleep}
 use Rattle.rules.proofs.Leads.{Sight, Leads, owes, passes, raises, wakes, close-raises, close-wakes, shut-raises, shut-wakes, shut-raises-again, shut-wakes-again, stop_at}
-use Rattle.rules.proofs.Heard.{Cause, none, duty, sets_none}
+use Rattle.rules.proofs.Heard.{Cause, none, duty, sets_none, has-cause}
 use Rattle.rules.proofs.Listening.{ReadyAt}
 use Rattle.rules.proofs.RealCalls.{Idle}
 use Rattle.rules.proofs.Costs.{own_room}
 use Rattle.rules.proofs.Fairly.{Ready, ready-happens, idle-duty}
 use Rattle.rules.proofs.RealRun.{power-fits, slot-fits, real-reached, real-happens}
 use Rattle.rules.proofs.Causes.{room-is, ready-reached}
-use Rattle.rules.proofs.BeingRung.{ringing, has-cause, due}
+use Rattle.rules.proofs.BeingRung.{ringing, due}
 use Rattle.rules.proofs.Asks.{run-parts}
 use Rattle.rules.proofs.Deeds.{Goes, Stays, Deed, deed, goes, stays}
 use Rattle.rules.proofs.WaitFree.{room-more}

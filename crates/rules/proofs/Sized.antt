@@ -25,14 +25,14 @@ use Rattle.types.specs.declared.Answer.TheVariants.{GoesOn}
 use Rattle.types.specs.declared.Step.TheVariants.{Look, LastLook, CloseSet, ShutSet}
 use Rattle.layout.specs.Limits.{power_ok, slot_ok, payload_capacity, total_bytes}
 use Rattle.layout.specs.Attach.{attach_answer, attach_reply, attached}
-use Rattle.rules.specs.Sides.{other, same_side}
+use Rattle.rules.specs.Sides.{other}
 use Rattle.rules.specs.Take.{stance_of}
 use Rattle.rules.specs.Calls.{is_sleeping, length_ok, sound, ready, reply, at, named, begins, rouses, push_spec, close_spec, shut_spec, spurious_spec, timeout_spec}
 use Rattle.rules.specs.Turn.{lent_to, lent_ok, goes, woke_of, error_of}
 use Rattle.rules.specs.Next.{next_spec}
 use Rattle.rules.specs.Bench.{seat, hears, wakened, settled, played, played_leaves}
 use Rattle.rules.specs.Run.{World, Happening, attaches, plays, party_in, takes, happens, run, opened}
-use Rattle.rules.proofs.Taken.{turn_world, turn-refused, turn-taken}
+use Rattle.rules.proofs.Taken.{turn_world, turn-refused, turn-taken, same_true}
 use Rattle.rules.proofs.Seats.{roused}
 use Rattle.rules.proofs.Real.{sizes, Real}
 
@@ -124,10 +124,6 @@ pub sized-start : (region : List ℕ) → Sized (opened region)
 sized-start region = leb-zero (payload_capacity 0)
 
 -- an attached party's record is sound
-same-side : (side : Side) → same_side side side ≡ true
-same-side Sender = refl
-same-side Recorder = refl
-
 fits-here : (w : World) (side : Side) → Sized w → Fits side (party_in w side)
 fits-here w Sender h = h
 fits-here w Recorder h = refl
@@ -149,7 +145,7 @@ module _ (P S v : ℕ) (on : Bool) (power-ok : power_ok P ≡ true) (slot-ok : s
   unfolding sound
   sound-here =
       let f : length_ok side (party_in w side).length S ≡ true = subst (λ (o : Own). length_ok side (party_in w side).length o.slot ≡ true) own-here (fits-here w side sized) in
-      rw ((real.sides side).seat.few, own-here, same-side side, power-ok, slot-ok, f)
+      rw ((real.sides side).seat.few, own-here, same_true side, power-ok, slot-ok, f)
 
   -- and its turn is taken
   pub takes-here : takes w side (blank_of (party_in w side).length) (blank_of (party_in w side).length) None ≡ true

@@ -25,6 +25,10 @@ use Rattle.rules.specs.Run.{World, party_in, takes, traced, turn_traced}
 use Rattle.rules.proofs.Leaving.{made, turn_is, leaves-is, party-is}
 use Rattle.rules.proofs.Seats.{moved}
 
+pub same_true : (side : Side) → same_side side side ≡ true
+same_true Sender = refl
+same_true Recorder = refl
+
 -- what a turn of a side makes of a world
 abbrev pub turn_world : World → Side → (payload lent : List ℕ) → Fault → World
 turn_world w side payload lent fault =

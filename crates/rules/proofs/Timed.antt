@@ -42,7 +42,7 @@ use Rattle.rules.specs.Asked.{begun, at_wait, timed_after, timed_by}
 use Rattle.rules.specs.Meaning.{TimedByCall}
 use Rattle.rules.proofs.Leads.{last_at, Sight, Onward, straight, around, Leads, idles, finds, blocks, gives_up, copies, spills, tells, stores, owes, passes, raises, wakes, enters, stops, finds-spin, spins, reads, finds-again, stays, enters-again, stops-again, sleeps as falls-asleep, returns, ends, dreams, glances, glances-again, times-out, finds-last, finds-none, closes, closes-alone, close-raises, close-wakes, shuts, shut-raises, shut-wakes, shut-raises-again, shut-wakes-again}
 use Rattle.rules.proofs.Seats.{roused, roused-elim}
-use Rattle.rules.proofs.Taken.{turn_world, turn-refused}
+use Rattle.rules.proofs.Taken.{turn_world, turn-refused, same_true}
 use Rattle.rules.proofs.RealTurn.{next-step, leads-here, after_turn, turn-is-after}
 use Rattle.rules.proofs.RealRun.{power-fits, slot-fits, real-start, real-happens}
 use Rattle.rules.proofs.Listening.{mover-is, waiter-is}
@@ -171,10 +171,6 @@ timed-error f same e = by (eqb f 0) same (eqb f 4 || eqb f 11) (eqb f 110) e
 
 abbrev In : Side → Bool → World → Type 0
 In side b w = Glance side b (party_in w side).step
-
-same_true : (side : Side) → same_side side side ≡ true
-same_true Sender = refl
-same_true Recorder = refl
 
 begun-glance : (side : Side) (p : Party) (g k o n : Bool) (q : Party) (b : Bool) → Glance side b p.step → Glance side false q.step
     → Glance side (pick (begun (begins p g k o n q).answer) false b) (begins p g k o n q).party.step

@@ -12,7 +12,6 @@ use Rattle.types.specs.declared.Side.{Side}
 use Rattle.types.specs.declared.Side.TheVariants.{Sender, Recorder}
 use Rattle.types.specs.declared.Own.{Own}
 use Rattle.types.specs.declared.Party.{Party}
-use Rattle.types.specs.declared.Bench.{Bench}
 use Rattle.types.specs.declared.Reply.{Reply}
 use Rattle.types.specs.Faults.{Fault}
 use Rattle.types.specs.declared.Fit.TheVariants.{Fits}
@@ -31,7 +30,7 @@ use Rattle.rules.specs.Next.{slot_access, next_at, next_spec}
 use Rattle.rules.specs.Access.{value_of, buffer_of}
 use Rattle.rules.specs.Calls.{sound, at, reply, spurious_spec, timeout_spec}
 use Rattle.rules.specs.Turn.{error_of, woke_of}
-use Rattle.rules.specs.Bench.{party_of, seat, settled, played, played_leaves}
+use Rattle.rules.specs.Bench.{settled, played, played_leaves}
 use Rattle.rules.specs.Given.{timed-out, turn-taken}
 use Rattle.rules.specs.Run.{Note, Trace, World, Happening, party_in, takes, traced, happens}
 use Rattle.rules.specs.Premises.{Typed, AllTyped}
@@ -201,9 +200,6 @@ module _ (r : List ℕ) (P S : ℕ) (on : Bool) (v : ℕ) (fresh : Fresh r P S o
   roused-to : (side : Side) (p : Party) → sound side p ≡ true → p.step ≡ Asleep → timeout_spec side p ≡ reply (at (LastLook true) p) GoesOn
   unfolding timeout_spec
   roused-to side p a e = rw (a, e) refl
-
-  seated-step : (side : Side) (b : Bench) (q : Reply) → party_of (seat b side q.party) side ≡ q.party
-  seated-step side b q = seat-one side b q.party
 
   timed : (side : Side) (hs : List Happening) (h : Happening) → AllTyped hs → TimesOut side (reached r P S on v hs) h → Timed side hs h
   unfolding happens played played_leaves settled wait_move nap_of

@@ -51,7 +51,6 @@ use Rattle.rules.proofs.Rooms.{as_room}
 use Rattle.rules.proofs.Leads.{Tells}
 use Rattle.rules.proofs.Copies.{head-is}
 use Rattle.rules.proofs.Fits.{first-waits}
-use Rattle.rules.proofs.Taken.{turn-refused}
 use Rattle.rules.proofs.RealTurn.{sight_at, own_is, counter-is, access-is, tells-here, turn-is-after}
 use Rattle.rules.proofs.RealRun.{power-fits, slot-fits, real-reached, in_order}
 use Rattle.rules.proofs.Listening.{trace-is}
@@ -143,9 +142,6 @@ module _ (r : List ℕ) (P S : ℕ) (on : Bool) (v : ℕ) (fresh : Fresh r P S o
 
     abbrev value : ℕ
     value = value_of w.region p.own (next_spec p)
-
-    refused-same : takes w side payload lent fault ≡ false → u ≡ w
-    refused-same g = turn-happens side payload lent fault w ∙ turn-refused w side payload lent fault g
 
     module _ (g : takes w side payload lent fault ≡ true) where
       side-is : p.own.side ≡ side
