@@ -14,7 +14,7 @@ use lib.Pow.{pow_mono}
 use Rattle.std.specs.Cmp.{first_so, second_so}
 use Rattle.types.specs.Pick.{pick}
 use Rattle.words.proofs.Sets.{Apart}
-use Rattle.layout.specs.Limits.{least_power, most_power, least_slot, most_slot, slot_step, header_bytes, slot_head_bytes, power_ok, slot_ok, capacity, payload_capacity, ring_bytes, total_bytes}
+use Rattle.layout.specs.Limits.{least_power, most_power, least_slot, most_slot, slot_step, header_bytes, slot_head_bytes, power_ok, slot_ok, capacity, payload_capacity, ring_bytes, total_bytes, spins_ok}
 use Rattle.layout.specs.Slots.{slot_at}
 
 most-by : (power : ℕ) (b : Bool) → leb power most_power ≡ b → pick b (2 ^ power) 0 ≤ 2 ^ most_power
@@ -32,6 +32,11 @@ capacity-room power = omega (arith, most-by power (leb power most_power) refl)
 pub ring-room : (power slot : ℕ) → ring_bytes power slot ≤ 2 ^ 30 * slot
 unfolding ring_bytes
 ring-room power slot = mul-le-mul_right slot (capacity-room power)
+
+-- no spins are within their limit
+pub spins-none : spins_ok 0 ≡ true
+unfolding spins_ok
+spins-none = refl
 
 -- a slot size within the limits
 module _ (slot : ℕ) (ok : slot_ok slot ≡ true) where

@@ -15,11 +15,11 @@ use Rattle.types.specs.declared.Side.TheVariants.{Sender, Recorder}
 use Rattle.types.specs.declared.Party.{Party}
 use Rattle.types.specs.Faults.{Fault}
 use Rattle.types.specs.declared.Event.TheVariants.{Turn, Failing, Spurious, TimeOut, Push, Pop, Close, Shutdown}
-use Rattle.layout.specs.Limits.{power_ok, slot_ok, spins_ok, capacity, ring_bytes, total_bytes}
+use Rattle.layout.specs.Limits.{power_ok, slot_ok, capacity, ring_bytes, total_bytes}
 use Rattle.layout.specs.Flags.{worth, reserved_from, bit_on, attach_mark, close_mark}
 use Rattle.layout.specs.Header.{flags_at, counter_at, bell_at}
 use Rattle.layout.specs.Create.{first_flags, created}
-use Rattle.layout.proofs.SizeLaws.{capacity-room}
+use Rattle.layout.proofs.SizeLaws.{capacity-room, spins-none}
 use Rattle.layout.specs.Whole.{Fitting}
 use Rattle.layout.proofs.Headed.{length-headed, headed-power, headed-slot, headed-flags, headed-counter, headed-bell}
 use Rattle.layout.proofs.Accepted.{tests, fits, first_small, first-option}
@@ -105,10 +105,6 @@ module _ (r : List ℕ) (P S : ℕ) (on : Bool) (v : ℕ) (fresh : Fresh r P S o
   unfolding created
   bell-starts side = headed-bell r (ring_bytes P S) P S (first_flags on) v made (sleep_bell side)
 
-  none-few : spins_ok 0 ≡ true
-  unfolding spins_ok
-  none-few = refl
-
   side-starts : (side : Side) → SideGood P S v on side region (party_in (opened region) side) (opened region).trace
   side-starts Sender =
       record {
@@ -120,7 +116,7 @@ module _ (r : List ℕ) (P S : ℕ) (on : Bool) (v : ℕ) (fresh : Fresh r P S o
               in_place = λ e. absurd (let z : ◌≡◌ {A = ℕ} 0 1 = cc in omega arith);
               empty = λ e. (refl, refl);
               over = λ e. refl;
-              few = none-few;
+              few = spins-none;
               spun = λ n e. absurd (let z : ◌≡◌ {A = ℕ} 0 1 = cc in omega arith);
               heard = λ e. absurd (let z : ◌≡◌ {A = ℕ} 0 1 = cc in omega arith);
             };
@@ -140,7 +136,7 @@ module _ (r : List ℕ) (P S : ℕ) (on : Bool) (v : ℕ) (fresh : Fresh r P S o
               in_place = λ e. absurd (let z : ◌≡◌ {A = ℕ} 0 1 = cc in omega arith);
               empty = λ e. (refl, refl);
               over = λ e. refl;
-              few = none-few;
+              few = spins-none;
               spun = λ n e. absurd (let z : ◌≡◌ {A = ℕ} 0 1 = cc in omega arith);
               heard = λ e. absurd (let z : ◌≡◌ {A = ℕ} 0 1 = cc in omega arith);
             };

@@ -21,7 +21,7 @@ use Rattle.layout.specs.Limits.{most_power, most_slot, power_ok, slot_ok, spins_
 use Rattle.layout.specs.Slots.{slot_at}
 use Rattle.layout.specs.Create.{create_answer}
 use Rattle.layout.specs.Attach.{flag_checks, region_checks, attach_checks, attach_answer}
-use Rattle.layout.proofs.SizeLaws.{capacity-most, slot-most, total-most}
+use Rattle.layout.proofs.SizeLaws.{capacity-most, slot-most, total-most, spins-none}
 use Rattle.layout.proofs.Accepted.{size_checks, spins-taken, attach-headed, accepted as accepted-by}
 use Rattle.rules.specs.Looks.{room_with, room_of}
 use Rattle.starred.specs.Cases.{Case, accepted, largest, refused, flagged, spinning, overspun, used, corrupt, place, bell, Largest, Spinning, Overspun, CorruptAt, Raised, Holds, AllHold, starred}
@@ -54,12 +54,8 @@ unfolding payload_capacity power_ok slot_ok
 most total payload t p =
     ((λ power slot power-ok slot-ok. (rw t at (total-most slot slot-ok power), omega (arith, slot-most slot slot-ok))), (most_power, (most_slot, (refl, (refl, (t, p))))))
 
-none-spins : spins_ok 0 ≡ true
-unfolding spins_ok
-none-spins = refl
-
 few : (spins : ℕ) → spins_ok spins ≡ true → Spinning spins
-few spins h r side = spins-taken r side spins h ∙ sym (spins-taken r side 0 none-spins)
+few spins h r side = spins-taken r side spins h ∙ sym (spins-taken r side 0 spins-none)
 
 many : (spins : ℕ) (answer : Answer) → ((shape : Answer) → pick (spins_ok spins) shape BadCall ≡ answer) → Overspun spins answer
 unfolding attach_answer attach_checks
