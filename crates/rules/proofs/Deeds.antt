@@ -46,7 +46,7 @@ use Rattle.rules.proofs.Seats.{roused}
 use Rattle.rules.proofs.Taken.{turn_world, turn-refused}
 use Rattle.rules.proofs.RealTurn.{sight, leads-here, after_turn, turn-is-after}
 use Rattle.rules.proofs.RealCalls.{Idle, Changed, seat-one, seat-two, seated, push-changes, pop-changes, close-changes, shut-changes, spurious-changes, timeout-changes}
-use Rattle.rules.proofs.RealAttach.{bit-clear, attach-flags, attach_world}
+use Rattle.rules.proofs.RealAttach.{attach-flags, attach_world, was-at-rest}
 use Rattle.rules.proofs.Heard.{rung_by, room_by, sets_none}
 use Rattle.rules.proofs.Own.{waits_on}
 use Rattle.rules.proofs.Costs.{own_room}
@@ -176,9 +176,6 @@ module _ (P S v : ℕ) (on : Bool) where
     unfolding attach_leaves attach_reply
     joined spins = by (eqb (number (attach_answer w.region side spins)) 0) refl
       where
-        empty : eqb (number (attach_answer w.region side spins)) 0 ≡ true → (party_in w side).step ≡ Rest
-        empty e = ((real.sides side).seat.empty (sym (real.sides side).seat.attached-bit ∙ bit-clear w.region side spins e)).0
-
         by : (b : Bool) → eqb (number (attach_answer w.region side spins)) 0 ≡ b → Stays (attaches side spins) side w (attach_world P S v on power-ok slot-ok w real side spins)
         by false e = rw e record { trace = refl; other_step = refl; tick = λ c. refl; own-step = inl refl; asked = λ x. absurd x; stop = λ σ. refl; up = λ k e. e }
         by true e =
@@ -186,7 +183,7 @@ module _ (P S v : ℕ) (on : Bool) where
               trace = refl;
               other_step = ap (λ (x : Party). x.step) (seat-two side w.bench (attached w.region side spins));
               tick = λ c. refl;
-              own-step = inl (ap (λ (x : Party). x.step) (seat-one side w.bench (attached w.region side spins)) ∙ sym (empty e));
+              own-step = inl (ap (λ (x : Party). x.step) (seat-one side w.bench (attached w.region side spins)) ∙ sym (was-at-rest P S v on power-ok slot-ok w real side spins e));
               asked = λ x. absurd x;
               stop = λ σ. ap (stop_at σ) (attach-flags P S v on power-ok slot-ok w real side) ∙ stop-kept P S v on σ side (le_at 4 w.region flags_at) real.fixed.small;
               up = λ k e. ap (bit_on (worth k)) (attach-flags P S v on power-ok slot-ok w real side) ∙ mark-up (attach_mark side) (le_at 4 w.region flags_at) real.fixed.small k e;

@@ -83,13 +83,13 @@ one_less side s k then i h n l = by (to_rest (last_looks side) s k) refl h l
     by zero e h l = absurd (i ((near (last_looks side) (one_more side) s k).rested (omega arith)))
     by (suc m) e h l = (omega arith, omega arith)
 
--- the number is at least seven, and at least what follows so many spins
-either-most : (x : ℕ) → (7 ≤ pick (leb x 7) 7 x) × (x ≤ pick (leb x 7) 7 x)
-either-most x = by (leb x 7) refl
+-- the greater of two numbers
+pub either-most : (a x : ℕ) → (a ≤ pick (leb x a) a x) × (x ≤ pick (leb x a) a x)
+either-most a x = by (leb x a) refl
   where
-    by : (few : Bool) → leb x 7 ≡ few → (7 ≤ pick few 7 x) × (x ≤ pick few 7 x)
-    by true e = (omega arith, leb-true x 7 e)
-    by false e = (omega (arith, leb-false x 7 e), omega arith)
+    by : (few : Bool) → leb x a ≡ few → (a ≤ pick few a x) × (x ≤ pick few a x)
+    by true e = (omega arith, leb-true x a e)
+    by false e = (omega (arith, leb-false x a e), omega arith)
 
 idle-rest : (side : Side) (s : Step) (k : ℕ) → Idle s → to_rest (last_looks side) s k ≤ 6
 idle-rest side s k at_rest = omega arith
@@ -233,7 +233,7 @@ module _ (r : List ℕ) (P S : ℕ) (on : Bool) (v : ℕ) (fresh : Fresh r P S o
   ends_by counted count side Keeps goes rouses hs ms n t stop few own y long =
       let w = reached r P S on v hs in
       let typed = typed-parts hs ms t in
-      let either = either-most (n + 4 + last_looks side) in
+      let either = either-most 7 (n + 4 + last_looks side) in
       let start : Ending P S v on side (stop_turns side n) w = record { quiet = quiet-duty (other side) (party_in w (other side)).step stop.0; up = stop.1; left = (near (last_looks side) (one_more side) (party_in w side).step (room_in P S v on side w.trace)).most (stop_turns side n) either.0 (λ m e. omega (arith, few m e, either.1)) } in
       let done = ending-run P S v on (power-fits r P S on v fresh) (slot-fits r P S on v fresh) counted count side Keeps goes rouses ms w typed.1 own (real-reached r P S on v fresh hs typed.0) y (stop_turns side n) start long in
       (done.0, (done.1.0, (done.1.1.0, (done.1.1.1.0, subst (λ (u : World). (party_in u side).step ≡ Rest) (sym (run-parts hs done.0 (opened (created r P S on v)))) done.1.1.1.1))))

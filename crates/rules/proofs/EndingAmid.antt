@@ -4,8 +4,6 @@ use mathlib.Core.Bool.{Bool, true, false, ◌||◌}
 use mathlib.Core.List.{List, [], ◌∷◌, ◌++◌}
 use Prim.Native.Nat.{ℕ, ◌+◌, ◌≤◌}
 use native.Mathlib.Omega.{arith}
-use borrow.Author.Tests.{leb-true, leb-false}
-use lib.Dec.{leb}
 use Rattle.words.specs.Le.{le_at}
 use Rattle.types.specs.Pick.{pick}
 use Rattle.types.specs.declared.Side.{Side}
@@ -38,18 +36,10 @@ use Rattle.rules.proofs.NearerAmid.{seen, to_rest, near}
 use Rattle.rules.proofs.Bound.{Count, by-moves}
 use Rattle.rules.proofs.Asks.{run-parts, typed-parts}
 use Rattle.rules.proofs.Deeds.{Deed, deed, goes, stays}
-use Rattle.rules.proofs.Ending.{one_more, looks-most}
+use Rattle.rules.proofs.Ending.{one_more, looks-most, either-most}
 use Rattle.rules.proofs.Stops.{last-is}
 use Rattle.rules.proofs.Stopping.{Barred, Stretch, ending-run}
 use Rattle.rules.proofs.Real.{parts, room_in, Real}
-
--- the greater of two numbers
-either-most : (a x : ℕ) → (a ≤ pick (leb x a) a x) × (x ≤ pick (leb x a) a x)
-either-most a x = by (leb x a) refl
-  where
-    by : (few : Bool) → leb x a ≡ few → (a ≤ pick few a x) × (x ≤ pick few a x)
-    by true e = (omega arith, leb-true x a e)
-    by false e = (omega (arith, leb-false x a e), omega arith)
 
 -- last looks where the other gives no room, and where it may
 no_more : (side : Side) → last_looks side + 0 ≤ 1

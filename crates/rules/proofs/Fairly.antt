@@ -37,7 +37,7 @@ use Rattle.rules.specs.Phase.{phase}
 use Rattle.rules.proofs.Leads.{stop_at}
 use Rattle.rules.proofs.Taken.{turn_world, turn-refused}
 use Rattle.rules.proofs.RealTurn.{access-is, turn-is-after}
-use Rattle.rules.proofs.RealAttach.{bit-clear, attach-flags, attach_world}
+use Rattle.rules.proofs.RealAttach.{attach-flags, attach_world, was-at-rest}
 use Rattle.rules.proofs.Woken.{heard-by}
 use Rattle.rules.proofs.RealCalls.{Idle, rests, looks, glances, closes, shuts, Changed, seat-same, seat-one, seat-two, seated, push-changes, pop-changes, close-changes, shut-changes, spurious-changes, timeout-changes}
 use Rattle.rules.proofs.RealRun.{real-happens}
@@ -128,9 +128,6 @@ module _ (P S v : ℕ) (on : Bool) where
     unfolding attach_leaves attach_reply
     attached-other h y = by (eqb (number (attach_answer w.region side spins)) 0) refl h y
       where
-        empty : eqb (number (attach_answer w.region side spins)) 0 ≡ true → (party_in w side).step ≡ Rest
-        empty e = ((real.sides side).seat.empty (sym (real.sides side).seat.attached-bit ∙ bit-clear w.region side spins e)).0
-
         flags-now : le_at 4 (put_le 4 w.region flags_at (set_bit (worth (attach_mark side)) (le_at 4 w.region flags_at))) flags_at ≡ set_bit (worth (attach_mark side)) (le_at 4 w.region flags_at)
         flags-now = attach-flags P S v on power-ok slot-ok w real side
 
@@ -138,7 +135,7 @@ module _ (P S v : ℕ) (on : Bool) where
         by false e h y = rw e y
         by true e true y =
             rw (e, seat-one side w.bench (attached w.region side spins), seat-two side w.bench (attached w.region side spins), flags-now, stop-kept (other side) side (le_at 4 w.region flags_at) real.fixed.small)
-            (rw (ap (duty side) (empty e)) at y)
+            (rw (ap (duty side) (was-at-rest P S v on power-ok slot-ok w real side spins e)) at y)
         by true e false y = rw (e, seat-two side w.bench (attached w.region side spins)) y
 
   -- a turn, taken or refused

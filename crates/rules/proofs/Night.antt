@@ -7,6 +7,7 @@ use Prim.Native.Nat.{ℕ, zero, suc, ◌+◌, ◌*◌, ◌-◌, ◌<◌, ◌≤�
 use native.Mathlib.Omega.{arith}
 use lib.ListN.{length}
 use lib.Seq.{take_all}
+use Rattle.std.proofs.lemmas.Bool.{cases_lt}
 use Rattle.words.specs.Le.{le_at}
 use Rattle.types.specs.Pick.{pick}
 use Rattle.types.specs.declared.Side.{Side}
@@ -538,13 +539,8 @@ module _ (P S v : ℕ) (on : Bool) (goal : ℕ) where
               };
             })
 
-    less-or : (m n : ℕ) → (n ≤ m) ⊎ (m < n)
-    less-or m zero = inl (omega arith)
-    less-or zero (suc n) = inr (omega arith)
-    less-or (suc m) (suc n) = ⊎_elim (λ l. inl (omega arith)) (λ l. inr (omega arith)) (less-or m n)
-
     none_left : (w : World) → Both 0 0 0 w → goal ≤ count_of Recorder w.trace
-    none_left w y = by (less-or (count_of Recorder w.trace) goal)
+    none_left w y = by (cases_lt (count_of Recorder w.trace) goal)
       where
         short : count_of Recorder w.trace < goal → (k : ℕ) → room Recorder w ≡ k → ⊥
         short c (suc k) e = part_none Recorder Sender w y.recorder (omega arith) c (recorder-shape w y.night k e)
@@ -552,9 +548,9 @@ module _ (P S v : ℕ) (on : Bool) (goal : ℕ) where
             let q = y.night.real.queue.below in
             part_none Sender Recorder w y.sender (omega arith) (omega arith) (with-room Sender Recorder w (sender-shape w y.night) (omega arith))
 
-        by : (goal ≤ count_of Recorder w.trace) ⊎ (count_of Recorder w.trace < goal) → goal ≤ count_of Recorder w.trace
-        by (inl l) = l
-        by (inr c) = absurd (short c (room Recorder w) refl)
+        by : (count_of Recorder w.trace < goal) ⊎ (goal ≤ count_of Recorder w.trace) → goal ≤ count_of Recorder w.trace
+        by (inl c) = absurd (short c (room Recorder w) refl)
+        by (inr l) = l
 
     -- what was published by then is published in the end
     in-the-end : (rounds : List (List Happening)) (w : World) → Real P S v on w → Rounds goal rounds w → Real P S v on (played_out rounds w) × ((side : Side) → count_of side w.trace ≤ count_of side (played_out rounds w).trace)

@@ -6,6 +6,7 @@ use Prim.Native.Nat.{ℕ, zero, suc}
 use native.Mathlib.Omega.{arith}
 use lib.Dec.{eqb}
 use lib.ListN.{length}
+use Rattle.types.specs.declared.Step.TheVariants.{Rest}
 use Rattle.std.specs.Cmp.{first_so, second_so}
 use Rattle.std.proofs.lemmas.Bool.{not-true}
 use Rattle.words.specs.Le.{le_at, put_le}
@@ -66,6 +67,10 @@ module _ (P S v : ℕ) (on : Bool) (power-ok : power_ok P ≡ true) (slot-ok : s
 
   abbrev flags : ℕ
   flags = le_at 4 r flags_at
+
+  -- an accepted side's party was at rest
+  pub was-at-rest : (spins : ℕ) → eqb (number (attach_answer r side spins)) 0 ≡ true → p.step ≡ Rest
+  was-at-rest spins e = ((real.sides side).seat.empty (sym (real.sides side).seat.attached-bit ∙ bit-clear r side spins e)).0
 
   -- an attach stores as an access that sets its bit
   abbrev a : Access

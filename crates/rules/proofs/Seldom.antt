@@ -33,7 +33,7 @@ use Rattle.rules.proofs.Views.{sleeping-step}
 use Rattle.rules.proofs.Refusals.{ready-rests}
 use Rattle.rules.proofs.Taken.{turn_world, turn-refused}
 use Rattle.rules.proofs.RealTurn.{turn-is-after}
-use Rattle.rules.proofs.RealAttach.{bit-clear, attach_world}
+use Rattle.rules.proofs.RealAttach.{attach_world, was-at-rest}
 use Rattle.rules.proofs.RealCalls.{Idle, rests, looks, glances, closes, shuts, Changed, begins-one, rouses-one, seat-same, seat-one, seat-two, seated, push-changes, pop-changes, close-changes, shut-changes, spurious-changes, timeout-changes}
 use Rattle.rules.proofs.RealRun.{power-fits, slot-fits, real-start, real-happens}
 use Rattle.rules.proofs.Rings.{owing}
@@ -130,12 +130,9 @@ module _ (P S v : ℕ) (on : Bool) where
       unfolding attach_leaves attach_reply
       attached-theirs more y = by (eqb (number (attach_answer w.region side spins)) 0) refl
         where
-          empty : eqb (number (attach_answer w.region side spins)) 0 ≡ true → (party_in w side).step ≡ Rest
-          empty e = ((real.sides side).seat.empty (sym (real.sides side).seat.attached-bit ∙ bit-clear w.region side spins e)).0
-
           by : (b : Bool) → eqb (number (attach_answer w.region side spins)) 0 ≡ b → RungAt P S v on more (other side) side joined
           by false e = rw e y
-          by true e = rw (e, seat-one side w.bench (attached w.region side spins), seat-two side w.bench (attached w.region side spins)) (rw (empty e) at y)
+          by true e = rw (e, seat-one side w.bench (attached w.region side spins), seat-two side w.bench (attached w.region side spins)) (rw (was-at-rest P S v on power-ok slot-ok w real side spins e) at y)
 
     module _ (side : Side) where
       turned-mine : (payload lent : List ℕ) (fault : Fault) (more : ℕ) → RungAt P S v on more side (other side) w → RungAt P S v on more side (other side) (turn_world w side payload lent fault)
