@@ -8,7 +8,7 @@ ghost use Rattle.opening.specs.Night.{night_of};
 ghost use Rattle.script.specs.Script.{nights, reports};
 ghost use Rattle.night.specs.Pieces.{block_bytes, whole_in, left_of};
 
-use opening::Player;
+use opening::{Player, REGION};
 use records::Record;
 
 // A piece is at most as long as this.
@@ -58,7 +58,7 @@ fn feed_slices(
 
 // A piece of a script: the first have bytes of input, of which some may be left from the piece before.
 pub fn feed(
-    region: &mut [u8; 512],
+    region: &mut [u8; REGION],
     player: &mut Player,
     input: &mut [u8; BLOCK],
     have: usize,

@@ -5,6 +5,8 @@
 ghost use Rattle.std.specs.Prelude.{◌≤◌, length};
 
 use night::BLOCK;
+use opening::REGION;
+use records::Record;
 use std::io;
 use std::io::Read;
 
@@ -35,13 +37,13 @@ fn finish(rt: &impl Print, left: usize) -> Result<(), Failed> {
     if left == 0 {
         return Ok(());
     }
-    let mut report = [0u8; 32];
+    let mut report = [0u8; Record::BYTES];
     reports::cut_report(&mut report);
     tell(rt, &report)
 }
 
 fn play(rt: &impl Print, from: &mut impl Read) -> Result<(), Failed> {
-    let mut region = [0u8; 512];
+    let mut region = [0u8; REGION];
     let mut player = opening::start(&mut region);
     let mut input = [0u8; BLOCK];
     let mut out = [0u8; BLOCK];

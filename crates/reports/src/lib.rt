@@ -5,7 +5,7 @@ ghost use Rattle.std.specs.Prelude.{◌≡◌, ◌≤◌, min, length, take};
 ghost use Rattle.records.specs.Records.{record_bytes, payload_bytes, shown, report_of, cut_report};
 
 use records::Record;
-use types::Told;
+use types::{Answer, Told};
 use words::Word;
 
 // As many bytes of a payload as a call names, and no more than there are.
@@ -54,10 +54,10 @@ pub fn report_of(kind: u8, t: Told, buffer: &[u8], out: &mut [u8])
 
 // The report of a cut last record.
 #[tactic(auto, unfolding(records::specs::Records::cut_report))]
-pub fn cut_report(out: &mut [u8; 32])
+pub fn cut_report(out: &mut [u8; Record::BYTES])
     ensures { out.new ≡ cut_report }
 {
     *out = [0; Record::BYTES];
     out[Record::KIND] = 0xFF;
-    out[Record::MODE] = 20;
+    out[Record::MODE] = Told::from(Answer::BadCall).number;
 }

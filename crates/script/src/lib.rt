@@ -13,7 +13,7 @@ use types::{Answer, Event, Told};
 use words::Word;
 
 // A push that was begun keeps its record's payload.
-fn keep(payload: &mut [u8; 24], given: &[u8], asked: Asked, answer: Answer)
+fn keep(payload: &mut [u8; Record::PAYLOAD_BYTES], given: &[u8], asked: Asked, answer: Answer)
     requires { length given.now ≡ record_bytes }
     ensures { payload.new ≡ pick (is_push asked && is_begun answer) (payload_in given.now) payload.old }
 {

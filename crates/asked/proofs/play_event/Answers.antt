@@ -9,5 +9,5 @@ returns c =
     record {
       value = simp (n, m, take_min) at p.value;
       leaves = simp (n, m, take_min) at p.leaves;
-      given = rw (p.given, n, m, take_min, take_min, drop_min);
+      given = simp (p.given, n, m, take_min, drop_min);
     }
