@@ -12,7 +12,7 @@ filled-front : (s : List ℕ) (k : ℕ) → filled s (length s + k) ≡ s ++ rep
 filled-front s k = take-append-add s (replicate (length s + k) 0) k ∙ ap (λ (t : List ℕ). s ++ t) (take-replicate k (length s + k) 0 (omega arith))
 
 -- a run over zeros
-pub filled-over : (s : List ℕ) (n : ℕ) → length s ≤ n → s ++ drop (length s) (replicate n 0) ≡ filled s n
+filled-over : (s : List ℕ) (n : ℕ) → length s ≤ n → s ++ drop (length s) (replicate n 0) ≡ filled s n
 filled-over s n h =
     let e : length s + (n - length s) ≡ n = omega arith in
     rw drop-replicate (sym (rw e at (filled-front s (n - length s))))

@@ -1,2 +1,1 @@
-pub mod Clamped
 pub mod Filled
