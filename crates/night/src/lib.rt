@@ -56,7 +56,8 @@ fn feed_slices(
     Fed { told, left }
 }
 
-// A piece of a script: the first have bytes of input, of which some may be left from the piece before.
+// A piece of a script: the first have bytes of input, of which some may be left from the piece before. Memory is fixed: the
+// input has room for the longest piece.
 pub fn feed(
     region: &mut [u8; REGION],
     player: &mut Player,
