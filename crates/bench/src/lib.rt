@@ -24,7 +24,8 @@ fn turn(
     seats::turned(b, side, t)
 }
 
-// One event. The payload and the buffer are lent to its turn, and no other event touches them.
+// One event: a row each, as `played` has them. The payload and the buffer are lent to its turn, and no other event touches
+// them.
 pub fn play(region: &mut [u8], b: Bench, e: Event, payload: &[u8], buffer: &mut [u8]) -> Played
     ensures value { result ≡ played region.old b payload.now buffer.old e }
     ensures leaves { region.new ≡ played_leaves region.old b payload.now buffer.old e }

@@ -1,4 +1,4 @@
-// A slot of the ring, filled: a part of the region that starts in its middle.
+// A slot of the ring, filled: a part of the region that starts in its middle, cut out here by place and size.
 #![tactic(auto)]
 
 ghost use Rattle.std.specs.Prelude.{◌≡◌, ◌+◌, ◌^◌, ◌<◌, ◌≤◌, length};

@@ -121,6 +121,7 @@ impl Header {
         flags / bit % 2 == 1
     }
 
+    // Two flags that no party sets, so they are no `Mark`; each is `is_on` with its bit.
     pub fn initialised(flags: u32) -> bool
         ensures { result ≡ bit_on initialised flags }
     {

@@ -19,7 +19,7 @@ pub fn at(p: Party, step: Step) -> Party
     Party { step, ..p }
 }
 
-// The party at its first look, with what a push or a pop names.
+// The party at its first look, with what a push or a pop names: the fields of its event, one by one as the record has them.
 pub fn named(p: Party, blocking: bool, tag: u16, length: u32) -> Party
     ensures { result ≡ named blocking tag length p }
 {

@@ -1,4 +1,4 @@
-// Copies of runs of bytes in a lent slice.
+// Copies of runs of bytes in a lent slice. A run is given by its place and its length, as `part` has it.
 #![tactic(auto)]
 
 ghost use Rattle.std.specs.Prelude.{◌≡◌, ◌++◌, ◌+◌, ◌≤◌, length, drop, replicate};

@@ -1,4 +1,4 @@
-// Tests of runs of bytes in a lent slice.
+// Tests of runs of bytes in a lent slice. A run is given by its place and its length, as `zeros` has it.
 #![tactic(auto)]
 
 ghost use Rattle.std.specs.Prelude.{◌≡◌, ◌+◌, ◌*◌, ◌≤◌, length};

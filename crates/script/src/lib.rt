@@ -12,7 +12,7 @@ use records::{Asked, Record};
 use types::{Answer, Event, Told};
 use words::Word;
 
-// A push that was begun keeps its record's payload.
+// A push that was begun keeps its record's payload. Records are slices here, cut from a block by number.
 fn keep(payload: &mut [u8; Record::PAYLOAD_BYTES], given: &[u8], asked: Asked, answer: Answer)
     requires { length given.now ≡ record_bytes }
     ensures { payload.new ≡ pick (is_push asked && is_begun answer) (payload_in given.now) payload.old }

@@ -6,6 +6,7 @@ ghost use Rattle.rules.specs.Bench.{party_of, seat, settled, turned};
 
 use types::{Bench, Party, Played, Reply, Side, Turned};
 
+// No `Index`: it would have to stand in `types`, below `party_of`.
 pub fn party_of(b: Bench, side: Side) -> Party
     ensures { result ≡ party_of b side }
 {

@@ -15,6 +15,7 @@ fn settle<F: FnOnce(Party) -> Reply>(b: Bench, side: Side, event: F) -> Played
     seats::settled(b, side, event(seats::party_of(b, side)))
 }
 
+// The six are its calls, an event each, with the promise of each.
 pub fn spurious(b: Bench, side: Side) -> Played
     ensures { result ≡ settled b side (spurious_spec side (party_of b side)) }
 {

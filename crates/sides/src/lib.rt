@@ -1,4 +1,4 @@
-// What differs by the side.
+// What differs by the side. Each is a table of two rows, and the whole difference between the two parties.
 #![tactic(auto)]
 
 ghost use Rattle.std.specs.Prelude.{◌≡◌};

@@ -1,4 +1,5 @@
-// A slot of the ring, read: a part of the region that starts in its middle.
+// A slot of the ring, read: a part of the region that starts in its middle. It is cut out here, by place and size, and
+// handed on to the slot's reader, which takes the slice.
 #![tactic(auto)]
 
 ghost use Rattle.std.specs.Prelude.{◌≡◌, ◌+◌, ◌≤◌, length};
@@ -41,7 +42,7 @@ pub fn head_at(region: &[u8], at: usize, size: usize) -> u64
     read_head(&region[at..at + size])
 }
 
-// Length, tag, slot flags and zero word of a header.
+// Length, tag, slot flags and zero word of a header. No `From`: it would have to stand in `types`, below `head_of`.
 pub fn head_of(word: u64) -> SlotHead
     ensures { result ≡ head_of word }
 {

@@ -17,7 +17,7 @@ fn refused(party: Party) -> Turned
 }
 
 // A turn of that side: a push's copy reads the payload, a pop's writes the buffer. What is refused is tested here, before
-// anything is touched.
+// anything is touched. Region, payload and buffer stand side by side, since the promise says of each what it becomes.
 pub fn turn(
     side: Side,
     region: &mut [u8],
