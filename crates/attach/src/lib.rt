@@ -55,8 +55,8 @@ fn attached(region: &[u8], side: Side, spins: u16) -> Party
     fresh(own, Header::read::<u64>(region, Header::counter_at(side)))
 }
 
-// What the entry is given, tested in order: a count above the limit is refused before anything of the region is looked at, and a region too short for a header has
-// no fields to check.
+// What the entry is given, tested in order: a count above the limit is refused before anything of the region is looked at,
+// and a region too short for a header has no fields to check.
 #[tactic(auto, unfolding(layout::specs::Attach::attach_answer, layout::specs::Attach::attach_checks, layout::specs::Attach::region_checks))]
 fn accept(region: &[u8], side: Side, spins: u16) -> Result<(), Refusal>
     ensures answer { answered result ≡ attach_answer region.now side spins }

@@ -6,7 +6,8 @@ ghost use Rattle.rules.specs.Take.{move_at};
 
 use types::{Move, Party, Step};
 
-// Where the party's turn leads, a row a step as the definition has them. An error is announced where a futex call fails, and is 0 otherwise.
+// Where the party's turn leads, a row a step as the definition has them. An error is announced where a futex call fails,
+// and is 0 otherwise.
 pub fn move_at(p: Party, value: u64, error: u16) -> Move
     ensures { result ≡ move_at p.step p.own p.counter p.blocking p.length value error }
 {

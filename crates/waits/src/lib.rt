@@ -46,7 +46,8 @@ pub fn to_spin(spins: u16) -> Step
     }
 }
 
-// A spin looks as P1 and C1 do, and spins on over no room.
+// A spin looks as P1 and C1 do, and spins on over no room. This, the next and the last look are `room_move` with a way of
+// their own, as the definitions have them.
 #[tactic(auto, unfolding(rules::specs::Steps::spin_move))]
 pub fn spin_move(p: Party, their: u64, spins: u16) -> Move
     ensures { result ≡ spin_move p.own p.counter their spins }

@@ -26,7 +26,7 @@ pub trait Word: Copy {
     ghost exact: { (x y : Self) → number x ≡ number y → x ≡ y };
 }
 
-// Each width is written out: the gate takes no impl that a macro of ours wrote.
+// Each width is written out: the gate takes no impl that a macro of the repository wrote.
 impl Word for u8 {
     ghost bytes = { 1 };
 
