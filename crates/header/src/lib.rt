@@ -72,7 +72,7 @@ impl Header {
     // The flags from this bit on are zero.
     pub const RESERVED_FROM: u32 = 0x80;
 
-    // The word of a field.
+    // The word of a field: the header's own reader, of whatever width the field has.
     pub fn read<W: Word>(region: &[u8], field: usize) -> W
         requires { field + W.bytes ≤ length region.now }
         ensures { W.number result ≡ le_at W.bytes region.now field }

@@ -23,6 +23,7 @@ pub enum Action {
 // What a record asks: an event of the bench, or nothing that is known.
 pub type Asked = Option<Event>;
 
+// The record's own numbers, read here and nowhere else. What is unknown is no error to tell of, so no `TryFrom`.
 #[tactic(auto, unfolding(crate::specs::Records::action_of))]
 pub fn action_of(pair: u8) -> Option<Action>
     ensures { result ≡ action_of pair }

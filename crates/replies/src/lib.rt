@@ -32,7 +32,7 @@ pub fn named(p: Party, blocking: bool, tag: u16, length: u32) -> Party
     }
 }
 
-// The order of a begin: 20, 11, 19, 18.
+// The order of a begin: 20, 11, 19, 18. A refusal is a reply with the party as it was, so there is no error to hand on.
 pub fn begins(p: Party, goes: bool, closed: bool, off: bool, long: bool, begun: Party) -> Reply
     ensures { result ≡ begins p goes closed off long begun }
 {

@@ -8,7 +8,7 @@ use records::Record;
 use types::{Answer, Told};
 use words::Word;
 
-// As many bytes of a payload as a call names, and no more than there are.
+// As many bytes of a buffer as a note has, and no more than there are.
 pub fn lent(n: u32) -> usize
     ensures is { result ≡ min n payload_bytes }
     ensures within { result ≤ payload_bytes }
@@ -25,7 +25,7 @@ pub fn within(asked: u32, s: &[u8]) -> usize
     (asked as usize).min(s.len())
 }
 
-// What a report shows of a buffer: a delivered note's bytes alone.
+// What a report shows of a buffer: a delivered note's bytes alone. Told is any answer in numbers, and 0 is Done.
 fn shown(t: Told, buffer: &[u8]) -> &[u8]
     requires { length buffer.now ≡ payload_bytes }
     ensures is { result.now ≡ shown t buffer.now }

@@ -71,6 +71,7 @@ pub fn rings(side: Side, notfull: bool) -> bool
     }
 }
 
+// The operations of a wait and of a wake, as 17 tells them.
 pub fn wait_op(bell: Bell) -> u8
     ensures { result ≡ wait_op bell }
 {

@@ -1,5 +1,5 @@
 // The house limits, and the sizes that follow from a power and a slot size. Nothing here wraps: a capacity is at most
-// 2^30 and a slot size below 2^32.
+// 2^30 and a slot size below 2^32. The two stand side by side: a party's terms and a header have both among others.
 #![tactic(auto)]
 
 ghost use Rattle.std.specs.Prelude.{◌≡◌, true};

@@ -103,7 +103,7 @@ pub fn check_move(p: Party, their: u64, length: u16, tag: u16) -> Move
     goes_or_ends(blocked, Step::Raise(length, tag), Answer::Done(length, tag))
 }
 
-// A futex call that failed answers 17.
+// A futex call that failed answers 17, with the operation's number.
 pub fn unless_failed(error: u16, operation: u8, answer: Answer) -> Answer
     ensures { result ≡ unless_failed error operation answer }
 {

@@ -27,7 +27,7 @@ pub fn raise(region: &mut [u8], b: Bell)
     ensures { region.new ≡ put_le 4 region.old (bell_at b) (next 32 (le_at 4 region.old (bell_at b))) }
 {
     let at = Header::bell_at(b);
-    let epoch = u32::load(region, at);
+    let epoch = Header::read::<u32>(region, at);
     epoch.next().store(region, at);
 }
 

@@ -302,6 +302,7 @@ pub struct Told {
     pub error: u16,
 }
 
+// Written out row by row, as the table of answers has them.
 fn with_values(number: u8, tag: u16, length: u16, error: u16) -> Told
     ensures { result ≡ record { number = number; tag = tag; length = length; error = error } }
 {
@@ -336,7 +337,7 @@ impl From<Answer> for Told {
             Answer::WouldBlock => with_values(14, 0, 0, 0),
             Answer::OutputTooSmall(length) => with_values(15, 0, length, 0),
             Answer::AlreadyAttached => with_values(16, 0, 0, 0),
-            Answer::Syscall(operation, error) => with_values(17, operation as u16, 0, error),
+            Answer::Syscall(operation, error) => with_values(17, u16::from(operation), 0, error),
             Answer::PayloadTooLong => with_values(18, 0, 0, 0),
             Answer::NotFullOff => with_values(19, 0, 0, 0),
             Answer::BadCall => with_values(20, 0, 0, 0),

@@ -101,25 +101,17 @@ impl Word for u64 {
 }
 
 // A word that wraps: a counter, a bell.
-pub trait Wraps: Copy {
-    ghost bits: { ℕ };
-
-    ghost number: { Self → ℕ };
-
+pub trait Wraps: Word {
     // The next one.
     fn next(self) -> Self
-        ensures { number result ≡ next bits (number self) };
+        ensures { Self.number result ≡ next (8 * Self.bytes) (Self.number self) };
 
     // How far it lies ahead of another.
     fn ahead_of(self, other: Self) -> Self
-        ensures { number result ≡ minus bits (number self) (number other) };
+        ensures { Self.number result ≡ minus (8 * Self.bytes) (Self.number self) (Self.number other) };
 }
 
 impl Wraps for u64 {
-    ghost bits = { 64 };
-
-    ghost number = { λ x. x };
-
     fn next(self) -> u64 {
         self.wrapping_add(1)
     }
@@ -130,10 +122,6 @@ impl Wraps for u64 {
 }
 
 impl Wraps for u32 {
-    ghost bits = { 32 };
-
-    ghost number = { λ x. x };
-
     fn next(self) -> u32 {
         self.wrapping_add(1)
     }
