@@ -1,5 +1,5 @@
 // Little-endian words in a lent slice, and words that wrap.
-#![tactic(auto)]
+#![tactic(auto, unfolding(crate::specs::Wrap::plus, crate::specs::Wrap::minus))]
 
 ghost use Rattle.std.specs.Prelude.{ℕ, ◌≡◌, ◌+◌, ◌*◌, ◌<◌, ◌≤◌, length};
 ghost use Rattle.words.specs.Le.{le_at, put_le};
