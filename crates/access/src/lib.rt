@@ -9,7 +9,8 @@ use header::Header;
 use types::{Access, Party};
 use words::Word;
 
-// A push's payload, and a pop's buffer, are for the copies and stand apart, as the promise speaks of them, with the tag and the length that the party named.
+// A push's payload, and a pop's buffer, are for the copies and stand apart, as the promise speaks of them, with the tag and
+// the length that the party named.
 #[tactic(auto, unfolding(rules::specs::Access::value_of, rules::specs::Access::leaves_of, rules::specs::Access::buffer_of, layout::specs::Limits::total_bytes))]
 pub fn perform(region: &mut [u8], p: Party, a: Access, payload: &[u8], buffer: &mut [u8]) -> u64
     requires { Fitted p.own a (length region.old) (length payload.now) p.length (length buffer.old) }

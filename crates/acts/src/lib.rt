@@ -8,6 +8,7 @@ ghost use Rattle.access.specs.Fitted.{Fitted};
 
 use types::{Party, Reply, Turned};
 
+// An error is a number, 0 for none, as in `take`.
 pub fn act(region: &mut [u8], p: Party, payload: &[u8], buffer: &mut [u8], error: u16) -> Turned
     requires { Fitted p.own (next_spec p) (length region.old) (length payload.now) p.length (length buffer.old) }
     ensures value { result ≡ act_spec region.old p error }

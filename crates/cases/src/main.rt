@@ -13,7 +13,7 @@ use std::io::Read;
 use types::{Bench, Party, Played, Side, Told};
 use words::Word;
 
-// No input takes as many reads: the loop ends where the input does.
+// A loop needs a bound, and no input takes as many reads: it ends where the input does.
 const READS: u64 = 0x4000_0000_0000_0000;
 
 // A report: kind, number, tag, length and error of the answer; for either party its step and the sum of its record; the
@@ -25,7 +25,7 @@ const REGION: usize = 131456;
 
 const ROOM: u32 = 65536;
 
-// Reads until given is full, the input ends or a read fails, and says how many bytes came.
+// Reads until given is full, the input ends or a read fails, and says how many bytes came, as `read_exact` does not.
 fn read_full(from: &mut impl Read, given: &mut [u8]) -> usize
     ensures { result ≤ length given.new }
 {

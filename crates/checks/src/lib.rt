@@ -38,7 +38,7 @@ impl Region<'_> {
             && Header::read::<u16>(self.bytes, Header::MINOR) == 1
     }
 
-    // The header is taken off the total size, since the sum of header and ring might wrap.
+    // The header is taken off the total size, since the sum of header and ring might wrap. From usize there is no From: `as`.
     #[tactic(auto, unfolding(layout::specs::Attach::sizes_ok))]
     fn sizes_ok(&self) -> bool
         ensures { result ≡ sizes_ok self.now.bytes.now }
@@ -91,7 +91,7 @@ pub fn check(region: &[u8], side: Side) -> Result<(), Refusal>
     let header_size = Header::read::<u32>(region.bytes, Header::HEADER_SIZE);
     Refusal::InvalidMagic.unless(scans::same_bytes(region.bytes, 0, &Header::MAGIC))?;
     Refusal::UnsupportedVersion.unless(region.version_ok())?;
-    Refusal::InvalidHeaderSize.unless(header_size == Limits::HEADER_BYTES as u32)?;
+    Refusal::InvalidHeaderSize.unless(u64::from(header_size) == Limits::HEADER_BYTES)?;
     Refusal::InvalidLayout.unless(region.sizes_ok())?;
     region.check_ring(side)
 }

@@ -151,6 +151,7 @@ impl Header {
         }
     }
 
+    // This and the next are tables of two rows each, with no value in common.
     pub fn attach_mark(side: Side) -> Mark
         ensures { result ≡ attach_mark side }
     {

@@ -23,7 +23,8 @@ pub fn slot_access(side: Side, counter: u64) -> Access
     }
 }
 
-// P6 and C6 wake one; close, shutdown and corruption wake all.
+// P6 and C6 wake one; close, shutdown and corruption wake all. A row for each step, or for steps that touch the same, as
+// `next_at` has them.
 #[tactic(auto, unfolding(rules::specs::Next::next_spec))]
 pub fn next(p: Party) -> Access
     ensures { result ≡ next_spec p }

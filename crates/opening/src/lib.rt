@@ -15,7 +15,8 @@ const POWER: u8 = 2;
 const SLOT: u32 = 32;
 
 // What a script's player keeps between two records: both parties, the running push's payload and the pop's buffer. The
-// region is lent beside it: of a player that held it each contract would have to say that it still holds the same one.
+// region is lent beside it, since one of any length may be lent to what plays a record; of a player that borrowed it each
+// contract would have to say that it still holds the same one.
 #[derive(Clone, Copy)]
 pub struct Player {
     pub bench: Bench,

@@ -10,7 +10,7 @@ use records::Record;
 use std::io;
 use std::io::Read;
 
-// No input takes as many reads: the loop ends where the input does.
+// A loop needs a bound, and no input takes as many reads: it ends where the input does.
 const READS: u64 = 0x4000_0000_0000_0000;
 
 // What failed, and why.

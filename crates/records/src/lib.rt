@@ -87,6 +87,7 @@ impl Record {
 
     pub const PAYLOAD_BYTES: usize = 24;
 
+    // Given as a slice, since a block is cut into records by number.
     fn read(given: &[u8]) -> Self
         requires { length given.now ≡ record_bytes }
         ensures { result ≡ fields_in given.now }

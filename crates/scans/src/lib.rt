@@ -14,7 +14,7 @@ fn zero_bytes(s: &[u8], count: usize, at: usize) -> bool
     s[at..at + count].iter().all(|&b| b == 0)
 }
 
-// Whether the count words from at on are zero, eight bytes at a look.
+// Whether the count words from at on are zero, eight bytes at a look: a word by its number, as `load` takes its place.
 fn zero_words(s: &[u8], count: usize, at: usize) -> bool
     requires { at + 8 * count ≤ length s.now }
     ensures { result ≡ zeros s.now (8 * count) at }

@@ -45,7 +45,7 @@ fn pair(low: u32, high: u32) -> u64
     u64::from(low) + u64::from(high) * HIGH
 }
 
-// A report's number for a side.
+// A report's number for a side, and below for a step: they are the report's, so neither is a cast of the enum.
 fn whose(side: Side) -> u32
     ensures { result ≡ whose side }
 {

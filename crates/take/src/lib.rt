@@ -45,6 +45,7 @@ pub fn closed_after(stance: Stance, closed: bool) -> bool
     closed || stance == Stance::Closing
 }
 
+// The error is a number, 0 for none, as document 01 has it and as the step of a shutdown keeps it; whatever is given is taken.
 #[tactic(auto, unfolding(rules::specs::Take::take_spec, rules::specs::Take::move_of))]
 pub fn take(p: Party, value: u64, error: u16) -> Reply
     ensures { result ≡ take_spec p value error }

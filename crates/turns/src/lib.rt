@@ -36,7 +36,7 @@ pub fn turn(
     refused(p)
 }
 
-// A sender has no buffer to be lent.
+// A sender has no buffer to be lent. This and the next are what a host calls that has one side alone.
 pub fn push_turn(region: &mut [u8], p: Party, payload: &[u8], fault: Fault) -> Turned
     ensures value { result ≡ turn_spec Side.Sender region.old p payload.now [] fault }
     ensures leaves { region.new ≡ turn_leaves Side.Sender region.old p payload.now [] fault }

@@ -7,7 +7,7 @@ ghost use Rattle.rules.specs.Bench.{wakened};
 
 use types::{Access, Bell, Party, Side, Step};
 
-// A wake alone wakes, and not where it fails.
+// A wake alone wakes, and not where it fails. An error is a number, 0 for none, as in `take`.
 pub fn woke_of(a: Access, error: u16) -> Option<Bell>
     ensures { result ≡ woke_of a error }
 {
