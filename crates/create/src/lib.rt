@@ -18,7 +18,7 @@ fn first_flags(notfull: bool) -> u32
     }
 }
 
-// Both counters begin at start, which is 0 in service.
+// Both counters begin at start, which is 0 in service. What is asked for stands one by one, as in the definitions.
 #[tactic(auto, unfolding(layout::specs::Create::create_answer, layout::specs::Create::create_leaves, layout::specs::Create::created, layout::specs::Limits::total_bytes))]
 pub fn create(
     region: &mut [u8],

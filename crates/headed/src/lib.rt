@@ -10,7 +10,7 @@ use sizes::Limits;
 use words::Word;
 
 // Zeros over the header, then the magic and every field: version, sizes, the ring's sizes and the flags, pids and error
-// code, counters, bells.
+// code, counters, bells. What is given stands one by one, as in the definition.
 #[tactic(auto, unfolding(layout::specs::Header::headed, layout::specs::Header::blank))]
 pub fn write_header(region: &mut [u8], ring: u64, power: u8, slot: u32, flags: u32, start: u64)
     requires { (header_bytes ≤ length region.old) × (header_bytes + ring < 2 ^ 64) }

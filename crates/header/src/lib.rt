@@ -113,7 +113,7 @@ impl Header {
         }
     }
 
-    // Whether the bit of that worth is set.
+    // Whether the bit of that worth is set: by division, as the definitions take a word apart here and elsewhere.
     fn is_on(flags: u32, bit: u32) -> bool
         requires { 0 < bit }
         ensures { result ≡ bit_on bit flags }

@@ -1,4 +1,5 @@
-// What the counters say to a side.
+// What the counters say to a side. Capacity and counters stand one by one, as in the definitions: a party has them in two
+// places.
 #![tactic(auto)]
 
 ghost use Rattle.std.specs.Prelude.{◌≡◌};

@@ -22,6 +22,7 @@ impl Limits {
 
     pub const MOST_SPINS: u16 = 1000;
 
+    // As `Header::BYTES`, which is a place in usize.
     pub const HEADER_BYTES: u64 = 384;
 
     pub const SLOT_HEAD_BYTES: u32 = 8;

@@ -159,7 +159,8 @@ pub enum Door {
     Open,
 }
 
-// What a slot's length says to a pop: above the payload capacity; above the buffer's length; neither.
+// What a slot's length says to a pop: above the payload capacity; above the buffer's length; neither. The length and the tag
+// stand beside it, as in the definitions.
 #[derive(Clone, Copy, PartialEq, Eq)]
 pub enum Fit {
     Bad,
@@ -167,7 +168,7 @@ pub enum Fit {
     Fits,
 }
 
-// How a wait ends: asleep; as a spurious return; as a time-out; failed.
+// How a wait ends: asleep; as a spurious return; as a time-out; failed. The error stands beside it, as in the definitions.
 #[derive(Clone, Copy, PartialEq, Eq)]
 pub enum Nap {
     Sleeps,
@@ -184,7 +185,7 @@ pub enum Move {
     End(Answer),
 }
 
-// Why a region is not created, or not joined.
+// Why a region is not created, or not joined: answers that are refusals, so that an error can be nothing else.
 #[derive(Clone, Copy, PartialEq, Eq)]
 pub enum Refusal {
     InvalidMagic,
@@ -258,7 +259,7 @@ pub struct Reply {
     pub answer: Answer,
 }
 
-// The same, and whom the turn woke.
+// The same, and whom the turn woke: side by side, as the definitions of a turn have the three.
 #[derive(Clone, Copy, PartialEq, Eq)]
 pub struct Turned {
     pub party: Party,
