@@ -33,7 +33,7 @@ enum Asked {
 impl Case {
     pub(crate) const BYTES: usize = 24;
 
-    pub(crate) fn read(given: &[u8; 24]) -> Case {
+    pub(crate) fn read(given: &[u8; Self::BYTES]) -> Case {
         Case {
             kind: given[0],
             part: given[1],

@@ -303,7 +303,6 @@ pub struct Told {
     pub error: u16,
 }
 
-// Written out row by row, as the table of answers has them.
 fn with_values(number: u8, tag: u16, length: u16, error: u16) -> Told
     ensures { result ≡ record { number = number; tag = tag; length = length; error = error } }
 {
