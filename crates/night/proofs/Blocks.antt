@@ -20,7 +20,7 @@ drop-record n s =
     let e : record_bytes + record_bytes * n ≡ record_bytes * suc n = omega arith in
     drop-drop (record_bytes * n) record_bytes s ∙ ap (λ (k : ℕ). drop k s) e
 
-nights-add : (m n : ℕ) (w : Night) (s : List ℕ) → nights (m + n) w s ≡ nights n (nights m w s) (drop (record_bytes * m) s)
+pub nights-add : (m n : ℕ) (w : Night) (s : List ℕ) → nights (m + n) w s ≡ nights n (nights m w s) (drop (record_bytes * m) s)
 unfolding nights
 nights-add zero n w s = rw zero-add
 nights-add (suc m) n w s = rw (suc-add, ← drop-record m s) (nights-add m n (after w (take record_bytes s)) (drop record_bytes s))
@@ -52,7 +52,7 @@ length-reported : (w : Night) (s : List ℕ) → length (reported w s) ≡ recor
 unfolding reported
 length-reported w s = length-report (kind_in s) (told_of (played_by (asked_in s) w).answer) (buffer_by (asked_in s) w)
 
-length-reports : (n : ℕ) (w : Night) (s : List ℕ) → length (reports n w s) ≡ record_bytes * n
+pub length-reports : (n : ℕ) (w : Night) (s : List ℕ) → length (reports n w s) ≡ record_bytes * n
 unfolding reports
 length-reports zero w s = refl
 length-reports (suc n) w s =

@@ -17,7 +17,7 @@ use Rattle.night.proofs.Blocks.{nights-front, reports-add, reports-front}
 report_from : Night → List ℕ → List ℕ
 report_from w s = reports (whole_in s) w s ++ pick (eqb (length s % record_bytes) 0) [] cut_report
 
-left-short : (s : List ℕ) → length (left_of s) < record_bytes
+pub left-short : (s : List ℕ) → length (left_of s) < record_bytes
 left-short s = rw length-drop (omega arith)
 
 -- a script that begins with a piece: the piece's whole records, and then what was left of it with the rest

@@ -9,7 +9,7 @@ fits : create_answer 512 power slot ≡ Done 0 0
 unfolding create_answer power_ok slot_ok capacity ring_bytes total_bytes
 fits = refl
 
-total : total_bytes power slot ≡ 512
+pub total : total_bytes power slot ≡ 512
 unfolding total_bytes ring_bytes capacity
 total = refl
 

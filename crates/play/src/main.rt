@@ -44,9 +44,9 @@ fn finish(rt: &impl Print, left: usize) -> Result<(), Failed> {
 
 fn play(rt: &impl Print, from: &mut impl Read) -> Result<(), Failed> {
     let mut region = [0u8; REGION];
-    let mut player = opening::start(&mut region);
     let mut input = [0u8; BLOCK];
     let mut out = [0u8; BLOCK];
+    let mut player = opening::start(&mut region);
     let mut left = 0;
     for _ in 0..READS {
         let Some(have) = read_behind(from, &mut input, left)? else {

@@ -16,7 +16,24 @@ pub fn stance_of(step: Step) -> Stance
         Step::Copy => Stance::Copying,
         Step::Publish(_, _) => Stance::Publishing,
         Step::CloseSet => Stance::Closing,
-        _ => Stance::Moving,
+        Step::Look
+        | Step::Check(..)
+        | Step::Raise(..)
+        | Step::Wake(..)
+        | Step::Gate
+        | Step::Spin(_)
+        | Step::Epoch
+        | Step::Again(_)
+        | Step::GateAgain(_)
+        | Step::Wait(_)
+        | Step::LastLook(_)
+        | Step::CloseRaise
+        | Step::CloseWake
+        | Step::ShutSet(_)
+        | Step::ShutRaiseNe(_)
+        | Step::ShutWakeNe(_)
+        | Step::ShutRaiseNf(..)
+        | Step::ShutWakeNf(..) => Stance::Moving,
     }
 }
 

@@ -13,7 +13,17 @@ pub fn woke_of(a: Access, error: u16) -> Option<Bell>
 {
     match a {
         Access::WakeBell(bell, _) if error == 0 => Some(bell),
-        _ => None,
+        Access::None
+        | Access::LoadCounter(_)
+        | Access::LoadFlags
+        | Access::LoadBell(_)
+        | Access::WriteSlot(_)
+        | Access::ReadSlot(_)
+        | Access::StoreCounter(..)
+        | Access::RaiseBell(_)
+        | Access::SetFlag(_)
+        | Access::WaitBell(..)
+        | Access::WakeBell(..) => None,
     }
 }
 

@@ -1,12 +1,13 @@
 -- The laws of little-endian words, once over the width.
-use Rattle.std.proofs.Common.{◌≡◌, ℕ, zero, suc, ◌+◌, ◌-◌, ◌*◌, ◌/◌, ◌%◌, ◌^◌, ◌<◌, ◌≤◌, List, [], ◌∷◌, ◌++◌, length, get_or, add-one, slice_index, sym, refl, ap, ◌∙◌, ap₂, append-nil, add-zero, add_assoc, add-suc, zero-lt-suc, mul_assoc, mul_comm, div-lt_iff_lt-mul, suc-add, one-mul, pow-suc, zero-add, mul-add, div-one, mul_left_comm, arith, get_or-append-add}
-use native.Mathlib.Nat.{pow-zero, div-div-eq-div-mul}
+use Rattle.std.proofs.Common.{◌≡◌, ℕ, zero, suc, ◌+◌, ◌-◌, ◌*◌, ◌/◌, ◌%◌, ◌^◌, ◌<◌, ◌≤◌, List, [], ◌∷◌, ◌++◌, length, get_or, add-one, slice_index, sym, refl, ap, ◌∙◌, ap₂, append-nil, add-zero, add_assoc, add-suc, mod-lt, zero-lt-suc, mul_assoc, mul_comm, div-lt_iff_lt-mul, suc-add, one-mul, pow-suc, zero-add, mul-add, div-one, mul_left_comm, arith, get_or-append-add}
+use native.Mathlib.Nat.{pow-zero, one-le-pow, div-div-eq-div-mul}
+use lib.Arith.{mod-mul, digits_div, digits_mod}
 use Rattle.std.specs.Int.{byte_at, bytes_low_first}
 use borrow.Rule.Slice.PartMut.{put_mid}
 use lib.Seq.{sets, length-sets}
 use Rattle.words.specs.Bytes.{part}
 use Rattle.words.specs.Le.{le_at, le_bytes, put_le}
-use Rattle.words.proofs.Sets.{Outside, Apart, outside, sets-other, sets-in, sets_over, sets-swap, get_d_part, put_mid-sets}
+use Rattle.words.proofs.Sets.{Outside, Apart, outside, sets-other, sets-in, sets-append, sets_over, sets-swap, get_d_part, put_mid-sets}
 
 pub length-le_bytes : (w n : ℕ) → length (le_bytes w n) ≡ w
 unfolding le_bytes
@@ -83,6 +84,29 @@ pub put_le-swap : (v w : ℕ) (s : List ℕ) (i m j n : ℕ) → Apart i v j w �
 unfolding put_le
 put_le-swap v w s i m j n o a b =
     sets-swap 0 s i (le_bytes v m) j (le_bytes w n) (rw (length-le_bytes, length-le_bytes) o) (rw length-le_bytes a) (rw length-le_bytes b)
+
+byte_pow : (w : ℕ) → 0 < 256 ^ w
+byte_pow w = one-le-pow w 256 (zero-lt-suc 255)
+
+-- the low w bytes are those of what is left below 256 ^ w
+le_bytes-mod : (w n : ℕ) → le_bytes w (n % 256 ^ w) ≡ le_bytes w n
+unfolding le_bytes
+le_bytes-mod zero n = refl
+le_bytes-mod (suc w) n =
+    let e : n % 256 ^ suc w ≡ (n / 256 % 256 ^ w) * 256 + n % 256 = rw pow-suc (mod-mul n (byte_pow w) (zero-lt-suc 255)) in
+    let r : n % 256 < 256 = mod-lt n (zero-lt-suc 255) in
+    rw (e, digits_mod (n / 256 % 256 ^ w) r, digits_div (n / 256 % 256 ^ w) r, le_bytes-mod w (n / 256))
+
+le_bytes-split : (a b n : ℕ) → le_bytes (a + b) n ≡ le_bytes a n ++ le_bytes b (n / 256 ^ a)
+unfolding le_bytes
+le_bytes-split zero b n = rw (zero-add, pow-zero, div-one)
+le_bytes-split (suc a) b n = rw (suc-add, pow-suc, mul_comm, ← div-div-eq-div-mul) (ap (λ (t : List ℕ). n % 256 ∷ t) (le_bytes-split a b (n / 256)))
+
+-- a word stored in two parts
+pub put_le-split : (a b : ℕ) (s : List ℕ) (i n : ℕ) → put_le b (put_le a s i (n % 256 ^ a)) (i + a) (n / 256 ^ a) ≡ put_le (a + b) s i n
+unfolding put_le
+put_le-split a b s i n =
+    sym (rw (le_bytes-split a b n, sets-append s i (le_bytes a n) (le_bytes b (n / 256 ^ a)), length-le_bytes, le_bytes-mod))
 
 -- a word loaded in two parts
 pub le_at-split : (a b : ℕ) (s : List ℕ) (i : ℕ) → le_at a s i + 256 ^ a * le_at b s (i + a) ≡ le_at (a + b) s i
