@@ -1,9 +1,8 @@
 -- The whole report of a whole script.
-use Rattle.std.specs.Prelude.{Bool, true, false, ◌&&◌, Some, List, [], ◌++◌, ℕ, zero, suc, ◌/◌, ◌%◌, eqb, length, take, drop}
+use Rattle.std.specs.Prelude.{Bool, true, false, ◌&&◌, Some, None, List, [], ◌++◌, ℕ, zero, suc, ◌/◌, ◌%◌, eqb, length, take, drop}
 use Rattle.types.specs.Pick.{pick}
-use Rattle.types.specs.declared.Event.TheVariants.{Push}
+use Rattle.types.specs.declared.Event.TheVariants.{Turn, Failing, Spurious, TimeOut, Push, Pop, Close, Shutdown}
 use Rattle.types.specs.declared.Answer.{Answer}
-use Rattle.types.specs.declared.Answer.TheVariants.{Begun}
 use Rattle.records.specs.Records.{Asked}
 use Rattle.types.specs.Answers.{told_of, number}
 use Rattle.opening.specs.Night.{Night, start}
@@ -11,12 +10,18 @@ pub use Rattle.asked.specs.Played.{played_by, region_by, buffer_by}
 use Rattle.records.specs.Records.{record_bytes, kind_in, payload_in, asked_in, report_of, cut_report}
 
 abbrev pub is_push : Asked → Bool
+is_push None = false
+is_push (Some (Turn side)) = false
+is_push (Some (Failing side error)) = false
+is_push (Some (Spurious side)) = false
+is_push (Some (TimeOut side)) = false
 is_push (Some (Push blocking tag length)) = true
-is_push _ = false
+is_push (Some (Pop blocking length)) = false
+is_push (Some (Close side)) = false
+is_push (Some (Shutdown side)) = false
 
 abbrev pub is_begun : Answer → Bool
-is_begun Begun = true
-is_begun _ = false
+is_begun a = eqb (number a) 254
 
 -- a push that was begun keeps its record's payload for its copy turn
 unfoldable pub payload_by : List ℕ → Night → List ℕ
