@@ -48,12 +48,13 @@ header-attach-mark κs a z z' ws ws' p q = (p ∙ sym q, refl)
 pub header-close-mark : OneAnswer code.Header.close_mark.Kinds.ps code.Header.close_mark.Kinds.r code.Header.close_mark.Reads.Post
 header-close-mark κs a z z' ws ws' p q = (p ∙ sym q, refl)
 
--- at every width: a word's number is its own, which `Word` asks of each
+-- at any width at which a word's number is its own
 module _ (T : RattleType) (laws : Laws T) (copied : IsCopy T) (word : Word.Ghosts T.Denot) (word-code : Dict) (clone : Clone.Ghosts T.Denot) (clone-code : Dict) where
   pub header-read : ((x y : T.Denot) → word.number x ≡ word.number y → x ≡ y)
       → OneAnswer (code.Header.read.Kinds.ps T laws copied) (code.Header.read.Kinds.r T laws copied) (code.Header.read.Reads.Post T laws copied word word-code clone clone-code)
   header-read exact κs a z z' ws ws' p q = (exact z z' (p ∙ sym q), refl)
 
+-- and so at each that there is, where the impl has it as a law
 abbrev lawful8 : Laws u8
 lawful8 = of_field u8-field u8-laws refl (copy_shared u8-field u8-copy)
 

@@ -26,7 +26,7 @@ is_begun a = eqb (number a) 254
 -- a push that was begun keeps its record's payload for its copy turn
 unfoldable pub payload_by : List ℕ → Night → List ℕ
 payload_by s w =
-    pick (eqb (kind_in s) 8 && eqb (number (played_by (asked_in s) w).answer) 254) (payload_in s) w.payload
+    pick (eqb (kind_in s) 8 && is_begun (played_by (asked_in s) w).answer) (payload_in s) w.payload
 
 -- one record: what it leaves, and what is reported
 unfoldable pub after : Night → List ℕ → Night
